@@ -1,1 +1,2 @@
-// What every layer shares: parts of byte slices, numbers in bytes, and how a call answers.
+// What every layer shares: parts of byte slices, and how a call answers.
+pub mod window;
