@@ -1,7 +1,8 @@
 // Blocks cut from a message that lies in parts.
 ghost use Prim.Native.Nat.{ℕ, _+_, _-_, _<_, _≤_};
-ghost use Rattle.bytes.specs.Window.{laid, overlaidAt};
-ghost use lib.ListN.{getD, length};
+ghost use Rattle.bytes.specs.Window.{laid, overlaidAt, window};
+ghost use lib.ListN.{getD, length, replicate};
+ghost use mathlib.Core.List.{_++_};
 ghost use mathlib.Core.Path.{_≡_};
 
 // Writes the bytes of `part` from place `from` on into `block` from place `at` on, as many as there are and as fit.
@@ -32,4 +33,26 @@ pub fn lay(block: &mut [u8], start: usize, begin: u128, part: &[u8])
             overlay(block, at as usize, part, 0);
         }
     }
+}
+
+// Writes 0 everywhere.
+pub fn clear(block: &mut [u8])
+    ensures { λ _. ⌜ now (block .exit) ≡ replicate (length (now (block .entry))) 0 ⌝ }
+{
+    block.fill(0);
+}
+
+// Fills a block with the bytes of a message from place `start` on, 0 where the message has ended. The message is `head`, `left`,
+// `right` and `tail`, one after the other.
+pub fn gather(block: &mut [u8], start: usize, head: &[u8], left: &[u8], right: &[u8], tail: &[u8])
+    ensures { λ _. ⌜ now (block .exit) ≡ window (now (head .entry) ++ (now (left .entry) ++ now (right .entry)) ++ now (tail .entry)) start (length (now (block .entry))) ⌝ }
+{
+    let after_head = head.len() as u128;
+    let after_left = after_head + left.len() as u128;
+    let after_right = after_left + right.len() as u128;
+    clear(block);
+    lay(block, start, 0, head);
+    lay(block, start, after_head, left);
+    lay(block, start, after_left, right);
+    lay(block, start, after_right, tail);
 }

@@ -1,0 +1,74 @@
+-- Padding, and blocks cut from a message.
+use mathlib.Core.Path.{_≡_, refl, sym, ap, _∙_}
+use mathlib.Core.List.{List, [], _∷_, _++_, map}
+use Prim.Native.Nat.{ℕ, suc, _+_, _-_, _*_, _/_, _%_, _<_, _≤_}
+use native.Mathlib.Numerals.{add-one}
+use native.Mathlib.Omega.{arith}
+use lib.ListN.{length, getD, take, set, replicate, length-set, length-append}
+use borrow.Rule.Slice.PartMut.{putMid}
+use Rattle.std.specs.Iters.{counting}
+use Rattle.std.proofs.shelf.Lists.{take-replicate}
+use Rattle.std.proofs.shelf.Parts.{take-putMid}
+use Rattle.std.proofs.shelf.Counted.{fill-by-all, getD-map-counting, length-map-counting}
+use Rattle.bytes.specs.Window.{window}
+use Rattle.bytes.proofs.Windows.{window-at}
+use Rattle.sha256.specs.Compression.{compressed, initial}
+use Rattle.sha256.specs.Message.{wordAt, blockAt, padding, padded, zeroCount, longBytes, valueAfter, finalValue}
+
+-- a byte in front of zeros
+front : (n z v : ℕ) → z ≤ n → take (z + 1) (set (replicate (suc n) 0) 0 v) ≡ v ∷ replicate z 0
+front n z v h = ap (λ i. take i (v ∷ replicate n 0)) (add-one z) ∙ ap (λ l. v ∷ l) (take-replicate z n 0 h)
+
+-- what `pad` writes
+pub pads : (len k : ℕ) (xs ys : List ℕ) → xs ≡ replicate 72 0 → ys ≡ longBytes (8 * len) → k ≡ 8
+    → take (zeroCount len + 9) (putMid (zeroCount len + 1) k (set xs 0 128) ys) ≡ padding len
+unfolding padding
+pads len k xs ys e y l =
+    take-putMid (zeroCount len + 1) k (set xs 0 128) ys (zeroCount len + 9) (omega (arith, ap length y)) (simp (e, length-set) (omega arith))
+    ∙ ap (λ l. take (zeroCount len + 1) (set l 0 128) ++ ys) e
+    ∙ ap (λ l. l ++ ys) (front 71 (zeroCount len) 128 (omega arith))
+    ∙ ap (λ l. 128 ∷ (replicate (zeroCount len) 0 ++ l)) y
+
+-- ---- blocks
+
+-- a window's words are the message's
+pub block-window : (p : List ℕ) (start : ℕ) → blockAt (window p start 64) 0 ≡ blockAt p start
+unfolding blockAt
+block-window p start =
+    fill-by-all (λ t. wordAt p (start + 4 * t)) (map (λ t. wordAt w (0 + 4 * t)) (counting 0 16)) 16 0 (length-map-counting (λ t. wordAt w (0 + 4 * t)) 0 16)
+    (λ k h. getD-map-counting (λ t. wordAt w (0 + 4 * t)) 0 16 k k 0 h (omega arith) ∙ same k h)
+  where
+    w : List ℕ
+    w = window p start 64
+    at : (k i : ℕ) → k < 16 → i < 4 → getD w (0 + 4 * k + i) 0 ≡ getD p (start + 4 * k + i) 0
+    at k i h l = window-at p start 64 (0 + 4 * k + i) (omega arith) ∙ ap (λ j. getD p j 0) (omega arith)
+    same : (k : ℕ) → k < 16 → wordAt w (0 + 4 * k) ≡ wordAt p (start + 4 * k)
+    same k h =
+        let a : getD w (0 + 4 * k) 0 ≡ getD p (start + 4 * k) 0 = window-at p start 64 (0 + 4 * k) (omega arith) ∙ ap (λ j. getD p j 0) (omega arith) in
+        let b = at k 1 h (omega arith) in
+        let c = at k 2 h (omega arith) in
+        let d = at k 3 h (omega arith) in
+        cc
+
+-- the words of a block, one more and all
+pub words-all : (block m : List ℕ) → length m ≡ 16 → ((k : ℕ) → k < 16 → getD m k 0 ≡ wordAt block (0 + 4 * k)) → m ≡ blockAt block 0
+unfolding blockAt
+words-all block m l h = fill-by-all (λ t. wordAt block (0 + 4 * t)) m 16 0 l h
+
+pub value-none : (p : List ℕ) → initial ≡ valueAfter p 0
+unfolding valueAfter
+value-none p = refl
+
+pub value-more : (p v u : List ℕ) (n : ℕ) → v ≡ valueAfter p n → u ≡ compressed v (blockAt p (64 * n)) → u ≡ valueAfter p (n + 1)
+unfolding valueAfter
+value-more p v u n e h = h ∙ ap (λ x. compressed x (blockAt p (64 * n))) e ∙ ap (valueAfter p) (sym (add-one n))
+
+pub value-all : (h l r t v : List ℕ) → t ≡ padding (length h + length l + length r) → v ≡ valueAfter (h ++ (l ++ r) ++ t) ((length h + length l + length r + length t) / 64)
+    → v ≡ finalValue (h ++ (l ++ r))
+value-all h l r t v e q =
+    let n : length h + length l + length r ≡ length (h ++ (l ++ r)) = simp length-append (omega arith) in
+    let t-is = e ∙ ap padding n in
+    let all : length h + length l + length r + length t ≡ length (padded (h ++ (l ++ r))) =
+        ap (λ m. m + length t) n ∙ sym (length-append (h ++ (l ++ r)) t) ∙ ap (λ x. length (h ++ (l ++ r) ++ x)) t-is in
+    q ∙ ap (λ x. valueAfter (h ++ (l ++ r) ++ x) ((length h + length l + length r + length t) / 64)) t-is
+    ∙ ap (λ m. valueAfter (padded (h ++ (l ++ r))) (m / 64)) all

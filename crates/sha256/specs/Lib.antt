@@ -1,0 +1,3 @@
+pub mod Compression
+pub mod Message
+pub mod Vars

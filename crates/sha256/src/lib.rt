@@ -1,0 +1,4 @@
+// SHA-256.
+mod compression;
+pub mod digest;
+mod message;
