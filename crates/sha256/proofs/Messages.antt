@@ -1,38 +1,34 @@
 -- Padding, and blocks cut from a message.
 use mathlib.Core.Path.{_≡_, refl, sym, ap, _∙_}
 use mathlib.Core.List.{List, [], _∷_, _++_, map}
-use Prim.Native.Nat.{ℕ, suc, _+_, _-_, _*_, _/_, _%_, _<_, _≤_}
+use Prim.Native.Nat.{ℕ, _+_, _-_, _*_, _/_, _%_, _<_, _≤_}
 use native.Mathlib.Numerals.{add-one}
 use native.Mathlib.Omega.{arith}
-use lib.ListN.{length, getD, take, set, replicate, length-set, length-append}
+use lib.ListN.{length, getD, take, set, replicate, length-replicate, length-set, length-append}
 use borrow.Rule.Slice.PartMut.{putMid}
 use Rattle.std.specs.Iters.{counting}
-use Rattle.std.proofs.shelf.Lists.{take-replicate}
 use Rattle.std.proofs.shelf.Parts.{take-putMid}
 use Rattle.std.proofs.shelf.Counted.{fill-by-all, getD-map-counting, length-map-counting}
 use Rattle.bytes.specs.Window.{window}
 use Rattle.bytes.proofs.Windows.{window-at}
+use Rattle.bytes.proofs.Zeros.{zeros-behind}
 use Rattle.sha256.specs.Compression.{compressed, initial}
 use Rattle.sha256.specs.Message.{wordAt, blockAt, padding, padded, zeroCount, longBytes, valueAfter, finalValue}
 
--- a byte in front of zeros
-front : (n z v : ℕ) → z ≤ n → take (z + 1) (set (replicate (suc n) 0) 0 v) ≡ v ∷ replicate z 0
-front n z v h = ap (λ i. take i (v ∷ replicate n 0)) (add-one z) ∙ ap (λ l. v ∷ l) (take-replicate z n 0 h)
-
 -- what `pad` writes
-pub pads : (len k : ℕ) (xs ys : List ℕ) → xs ≡ replicate 72 0 → ys ≡ longBytes (8 * len) → k ≡ 8
+pub pads : (len k n : ℕ) (xs ys : List ℕ) → xs ≡ replicate n 0 → 72 ≤ n → ys ≡ longBytes (8 * len) → k ≡ 8
     → take (zeroCount len + 9) (putMid (zeroCount len + 1) k (set xs 0 128) ys) ≡ padding len
 unfolding padding
-pads len k xs ys e y l =
-    take-putMid (zeroCount len + 1) k (set xs 0 128) ys (zeroCount len + 9) (omega (arith, ap length y)) (simp (e, length-set) (omega arith))
-    ∙ ap (λ l. take (zeroCount len + 1) (set l 0 128) ++ ys) e
-    ∙ ap (λ l. l ++ ys) (front 71 (zeroCount len) 128 (omega arith))
-    ∙ ap (λ l. 128 ∷ (replicate (zeroCount len) 0 ++ l)) y
+pads len k n xs ys e l y eight =
+    take-putMid (zeroCount len + 1) k (set xs 0 128) ys (zeroCount len + 9) (omega (arith, ap length y)) (simp (e, length-set, length-replicate) (omega arith))
+    ∙ ap (λ zs. take (zeroCount len + 1) (set zs 0 128) ++ ys) e
+    ∙ ap (λ zs. zs ++ ys) (zeros-behind n (zeroCount len) 128 (omega arith))
+    ∙ ap (λ zs. 128 ∷ (replicate (zeroCount len) 0 ++ zs)) y
 
 -- ---- blocks
 
 -- a window's words are the message's
-pub block-window : (p : List ℕ) (start : ℕ) → blockAt (window p start 64) 0 ≡ blockAt p start
+block-window : (p : List ℕ) (start : ℕ) → blockAt (window p start 64) 0 ≡ blockAt p start
 unfolding blockAt
 block-window p start =
     fill-by-all (λ t. wordAt p (start + 4 * t)) (map (λ t. wordAt w (0 + 4 * t)) (counting 0 16)) 16 0 (length-map-counting (λ t. wordAt w (0 + 4 * t)) 0 16)
@@ -50,7 +46,10 @@ block-window p start =
         let d = at k 3 h (omega arith) in
         cc
 
--- the words of a block, one more and all
+pub block-next : (p block m : List ℕ) (start : ℕ) → block ≡ window p start 64 → m ≡ blockAt block 0 → m ≡ blockAt p start
+block-next p block m start e h = h ∙ ap (λ b. blockAt b 0) e ∙ block-window p start
+
+-- the words of a block
 pub words-all : (block m : List ℕ) → length m ≡ 16 → ((k : ℕ) → k < 16 → getD m k 0 ≡ wordAt block (0 + 4 * k)) → m ≡ blockAt block 0
 unfolding blockAt
 words-all block m l h = fill-by-all (λ t. wordAt block (0 + 4 * t)) m 16 0 l h

@@ -1,0 +1,3 @@
+pub mod Keccak
+pub mod Lanes
+pub mod Sponge

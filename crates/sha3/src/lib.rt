@@ -1,0 +1,4 @@
+// SHA3-256.
+pub mod digest;
+mod permutation;
+mod sponge;
