@@ -1,3 +1,4 @@
 pub mod Joins
+pub mod Padded
 pub mod Windows
 pub mod Zeros

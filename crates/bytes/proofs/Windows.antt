@@ -59,22 +59,22 @@ window-more m part start n begin b =
     window-by (m ++ part) (map (laidAt (window m start n) start begin part) (counting 0 (length (window m start n)))) start n
     (length-map-counting (laidAt (window m start n) start begin part) 0 (length (window m start n)) ∙ window-length m start n)
     (λ j h.
-      let l : j < length (window m start n) = omega (arith, window-length m start n) in
-      getD-map-counting (laidAt (window m start n) start begin part) 0 (length (window m start n)) j j 0 l (omega arith)
-      ∙ at j h)
+    let l : j < length (window m start n) = omega (arith, window-length m start n) in
+    getD-map-counting (laidAt (window m start n) start begin part) 0 (length (window m start n)) j j 0 l (omega arith)
+    ∙ at j h)
   where
     at : (j : ℕ) → j < n → laidAt (window m start n) start begin part j ≡ getD (m ++ part) (start + j) 0
     at j h =
         let w = window-at m start n j h in
         elim (cases-lt (start + j) (length m)) [
-          inl l ↦ let e = getD-append-left m part 0 (start + j) l in grind (arith, tells)
-        | inr l ↦
-            let e = getD-append-right m part begin (start + j) 0 (sym b) (omega arith) in
-            let p = getD-past m (start + j) 0 l in
-            elim (cases-lt (start + j) (begin + length part)) [
-              inl k ↦ grind (arith, tells)
-            | inr k ↦ let q = getD-past part (start + j - begin) 0 (omega arith) in grind (arith, tells)
-            ]
+          | inl l ↦ let e = getD-append-left m part 0 (start + j) l in grind (arith, tells)
+          | inr l ↦
+              let e = getD-append-right m part begin (start + j) 0 (sym b) (omega arith) in
+              let p = getD-past m (start + j) 0 l in
+              elim (cases-lt (start + j) (begin + length part)) [
+                | inl k ↦ grind (arith, tells)
+                | inr k ↦ let q = getD-past part (start + j - begin) 0 (omega arith) in grind (arith, tells)
+              ]
         ]
 
 pub window-next : (m part before after : List ℕ) (start n begin : ℕ) → begin ≡ length m → before ≡ window m start n → after ≡ laid before start begin part → after ≡ window (m ++ part) start n

@@ -4,7 +4,7 @@ use mathlib.Core.List.{List, [], _∷_, _++_, map}
 use Prim.Native.Nat.{ℕ, _+_, _-_, _*_, _/_, _%_, _<_, _≤_}
 use native.Mathlib.Numerals.{add-one}
 use native.Mathlib.Omega.{arith}
-use lib.ListN.{length, getD, take, set, replicate, length-replicate, length-set, length-append}
+use lib.ListN.{length, getD, take, set, replicate, length-replicate, length-set}
 use borrow.Rule.Slice.PartMut.{putMid}
 use Rattle.std.specs.Iters.{counting}
 use Rattle.std.proofs.shelf.Parts.{take-putMid}
@@ -13,7 +13,7 @@ use Rattle.bytes.specs.Window.{window}
 use Rattle.bytes.proofs.Windows.{window-at}
 use Rattle.bytes.proofs.Zeros.{zeros-behind}
 use Rattle.sha256.specs.Compression.{compressed, initial}
-use Rattle.sha256.specs.Message.{wordAt, blockAt, padding, padded, zeroCount, longBytes, valueAfter, finalValue}
+use Rattle.sha256.specs.Message.{wordAt, blockAt, padding, zeroCount, longBytes, valueAfter}
 
 -- what `pad` writes
 pub pads : (len k n : ℕ) (xs ys : List ℕ) → xs ≡ replicate n 0 → 72 ≤ n → ys ≡ longBytes (8 * len) → k ≡ 8
@@ -36,8 +36,10 @@ block-window p start =
   where
     w : List ℕ
     w = window p start 64
+
     at : (k i : ℕ) → k < 16 → i < 4 → getD w (0 + 4 * k + i) 0 ≡ getD p (start + 4 * k + i) 0
     at k i h l = window-at p start 64 (0 + 4 * k + i) (omega arith) ∙ ap (λ j. getD p j 0) (omega arith)
+
     same : (k : ℕ) → k < 16 → wordAt w (0 + 4 * k) ≡ wordAt p (start + 4 * k)
     same k h =
         let a : getD w (0 + 4 * k) 0 ≡ getD p (start + 4 * k) 0 = window-at p start 64 (0 + 4 * k) (omega arith) ∙ ap (λ j. getD p j 0) (omega arith) in
@@ -61,13 +63,3 @@ value-none p = refl
 pub value-more : (p v u : List ℕ) (n : ℕ) → v ≡ valueAfter p n → u ≡ compressed v (blockAt p (64 * n)) → u ≡ valueAfter p (n + 1)
 unfolding valueAfter
 value-more p v u n e h = h ∙ ap (λ x. compressed x (blockAt p (64 * n))) e ∙ ap (valueAfter p) (sym (add-one n))
-
-pub value-all : (h l r t v : List ℕ) → t ≡ padding (length h + length l + length r) → v ≡ valueAfter (h ++ (l ++ r) ++ t) ((length h + length l + length r + length t) / 64)
-    → v ≡ finalValue (h ++ (l ++ r))
-value-all h l r t v e q =
-    let n : length h + length l + length r ≡ length (h ++ (l ++ r)) = simp length-append (omega arith) in
-    let t-is = e ∙ ap padding n in
-    let all : length h + length l + length r + length t ≡ length (padded (h ++ (l ++ r))) =
-        ap (λ m. m + length t) n ∙ sym (length-append (h ++ (l ++ r)) t) ∙ ap (λ x. length (h ++ (l ++ r) ++ x)) t-is in
-    q ∙ ap (λ x. valueAfter (h ++ (l ++ r) ++ x) ((length h + length l + length r + length t) / 64)) t-is
-    ∙ ap (λ m. valueAfter (padded (h ++ (l ++ r))) (m / 64)) all

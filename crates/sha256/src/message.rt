@@ -20,7 +20,12 @@ fn word(block: &[u8], t: usize) -> u32
     requires { ⌜ 4 * t + 4 ≤ length (now block) ⌝ }
     ensures { λ r. ⌜ r ≡ wordAt (now (block .entry)) (4 * t) ⌝ }
 {
-    u32::from_be_bytes([block[4 * t], block[4 * t + 1], block[4 * t + 2], block[4 * t + 3]])
+    u32::from_be_bytes([
+        block[4 * t],
+        block[4 * t + 1],
+        block[4 * t + 2],
+        block[4 * t + 3],
+    ])
 }
 
 // The sixteen words of a block.

@@ -8,7 +8,7 @@ use native.Mathlib.Numerals.{add-one}
 use native.Mathlib.Omega.{arith}
 use lib.Bits.{bitXor}
 use lib.Dec.{eqb, ltb}
-use lib.ListN.{length, getD, take, set, replicate, length-append}
+use lib.ListN.{length, getD, take, set, replicate}
 use Rattle.std.specs.Iters.{counting}
 use Rattle.std.proofs.shelf.Counted.{fill-by-all, getD-map-counting, length-map-counting}
 use Rattle.std.proofs.shelf.Tests.{cases-lt, le-ltb, eq-eqb, ne-eqb, cond-true, cond-false}
@@ -19,7 +19,7 @@ use Rattle.sha3.specs.declared.permutation.Row.{Row}
 use Rattle.sha3.specs.declared.permutation.State.{State}
 use Rattle.sha3.specs.Keccak.{permuted}
 use Rattle.sha3.specs.Lanes.{lanes, rowAt, xorRow}
-use Rattle.sha3.specs.Sponge.{rate, padCount, padding, padded, laneAt, absorbed, stateAfter, finalState}
+use Rattle.sha3.specs.Sponge.{rate, padCount, padding, laneAt, absorbed, stateAfter}
 
 -- a window's lanes are the message's
 lane-window : (p : List ℕ) (start i : ℕ) → i < 17 → laneAt (window p start 136) (0 + 8 * i) ≡ laneAt p (start + 8 * i)
@@ -27,7 +27,7 @@ unfolding laneAt
 lane-window p start i h =
     let w : List ℕ = window p start 136 in
     let at : (j : ℕ) → j < 8 → getD w (0 + 8 * i + j) 0 ≡ getD p (start + 8 * i + j) 0 =
-        λ j l. window-at p start 136 (0 + 8 * i + j) (omega arith) ∙ ap (λ k. getD p k 0) (omega arith) in
+    λ j l. window-at p start 136 (0 + 8 * i + j) (omega arith) ∙ ap (λ k. getD p k 0) (omega arith) in
     let a : getD w (0 + 8 * i) 0 ≡ getD p (start + 8 * i) 0 = window-at p start 136 (0 + 8 * i) (omega arith) ∙ ap (λ k. getD p k 0) (omega arith) in
     let b = at 1 (omega arith) in
     let c = at 2 (omega arith) in
@@ -45,11 +45,12 @@ absorbed-window s p start = fill-by-all (lanes-of p start) (map (lanes-of (windo
   where
     lanes-of : List ℕ → ℕ → ℕ → ℕ
     lanes-of x q i = cond (ltb i 17) (bitXor (getD s i 0) (laneAt x (q + 8 * i))) (getD s i 0)
+
     same : (k : ℕ) → lanes-of (window p start 136) 0 k ≡ lanes-of p start k
     same k =
         elim (cases-lt k 17) [
-          inl h ↦ ap (λ x. cond (ltb k 17) (bitXor (getD s k 0) x) (getD s k 0)) (lane-window p start k h)
-        | inr h ↦ let f = le-ltb k 17 h in cc
+          | inl h ↦ ap (λ x. cond (ltb k 17) (bitXor (getD s k 0) x) (getD s k 0)) (lane-window p start k h)
+          | inr h ↦ let f = le-ltb k 17 h in cc
         ]
 
 -- a state of these rows and lanes
@@ -68,8 +69,10 @@ absorbed-rows s p x y z v w e f g h i =
   where
     x′ : Row
     x′ = xorRow (s .r0) (rowAt p 0)
+
     y′ : Row
     y′ = xorRow (s .r1) (rowAt p 5)
+
     z′ : Row
     z′ = xorRow (s .r2) (rowAt p 10)
 
@@ -98,16 +101,6 @@ state-none p = refl
 pub state-more : (p s t : List ℕ) (n : ℕ) → s ≡ stateAfter p n → t ≡ permuted (absorbed s p (rate * n)) → t ≡ stateAfter p (n + 1)
 unfolding stateAfter
 state-more p s t n e h = h ∙ ap (λ x. permuted (absorbed x p (rate * n))) e ∙ ap (stateAfter p) (sym (add-one n))
-
-pub state-all : (h l r t v : List ℕ) → t ≡ padding (length h + length l + length r) → v ≡ stateAfter (h ++ (l ++ r) ++ t) ((length h + length l + length r + length t) / 136)
-    → v ≡ finalState (h ++ (l ++ r))
-state-all h l r t v e q =
-    let n : length h + length l + length r ≡ length (h ++ (l ++ r)) = simp length-append (omega arith) in
-    let t-is = e ∙ ap padding n in
-    let all : length h + length l + length r + length t ≡ length (padded (h ++ (l ++ r))) =
-        ap (λ m. m + length t) n ∙ sym (length-append (h ++ (l ++ r)) t) ∙ ap (λ x. length (h ++ (l ++ r) ++ x)) t-is in
-    q ∙ ap (λ x. stateAfter (h ++ (l ++ r) ++ x) ((length h + length l + length r + length t) / 136)) t-is
-    ∙ ap (λ m. stateAfter (padded (h ++ (l ++ r))) (m / 136)) all
 
 pub absorbed-next : (s p block t : List ℕ) (start : ℕ) → block ≡ window p start 136 → t ≡ absorbed s block 0 → t ≡ absorbed s p start
 absorbed-next s p block t start e h = h ∙ ap (λ b. absorbed s b 0) e ∙ absorbed-window s p start

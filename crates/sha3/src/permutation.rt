@@ -147,11 +147,41 @@ fn pi(s: State) -> State
 {
     let (p, q, r, t, u) = (s.r0, s.r1, s.r2, s.r3, s.r4);
     State {
-        r0: Row { a: p.a, b: q.b, c: r.c, d: t.d, e: u.e },
-        r1: Row { a: p.d, b: q.e, c: r.a, d: t.b, e: u.c },
-        r2: Row { a: p.b, b: q.c, c: r.d, d: t.e, e: u.a },
-        r3: Row { a: p.e, b: q.a, c: r.b, d: t.c, e: u.d },
-        r4: Row { a: p.c, b: q.d, c: r.e, d: t.a, e: u.b },
+        r0: Row {
+            a: p.a,
+            b: q.b,
+            c: r.c,
+            d: t.d,
+            e: u.e,
+        },
+        r1: Row {
+            a: p.d,
+            b: q.e,
+            c: r.a,
+            d: t.b,
+            e: u.c,
+        },
+        r2: Row {
+            a: p.b,
+            b: q.c,
+            c: r.d,
+            d: t.e,
+            e: u.a,
+        },
+        r3: Row {
+            a: p.e,
+            b: q.a,
+            c: r.b,
+            d: t.c,
+            e: u.d,
+        },
+        r4: Row {
+            a: p.c,
+            b: q.d,
+            c: r.e,
+            d: t.a,
+            e: u.b,
+        },
     }
 }
 

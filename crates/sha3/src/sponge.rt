@@ -89,8 +89,20 @@ fn pad(tail: &mut [u8], len: usize) -> usize
 fn empty_state() -> State
     ensures { λ r. ⌜ lanes r ≡ replicate 25 0 ⌝ }
 {
-    let zero = Row { a: 0, b: 0, c: 0, d: 0, e: 0 };
-    State { r0: zero, r1: zero, r2: zero, r3: zero, r4: zero }
+    let zero = Row {
+        a: 0,
+        b: 0,
+        c: 0,
+        d: 0,
+        e: 0,
+    };
+    State {
+        r0: zero,
+        r1: zero,
+        r2: zero,
+        r3: zero,
+        r4: zero,
+    }
 }
 
 // The state after the block that begins at place `start` of the joined parts.

@@ -16,7 +16,7 @@ returns c j h =
     let from = c .args .from in
     let n = c .min-n .result in
     let ends : (length block ≤ at + n) ⊎ (length part ≤ from + n) =
-        elim (cases-lt (length block - at) (length part - from)) [ inl l ↦ inl (omega arith) | inr l ↦ inr (omega arith) ] in
+    elim (cases-lt (length block - at) (length part - from)) [ inl l ↦ inl (omega arith) | inr l ↦ inr (omega arith) ] in
     let whole : from + n - from ≡ n = omega arith in
     ap (λ ys. getD (putMid at (at + n - at) block ys) j 0) (c .copy-from-slice .ensures .after ∙ ap (λ m. take m (drop from part)) whole)
     ∙ overlaid-at block part at from n (at + n - at) j (omega arith) (omega arith) ends (omega arith) h

@@ -9,4 +9,4 @@ pub returns : need.returns
 returns c =
     c .compress .ensures
     ∙ ap (compressed (vars (c .args .v)))
-      (block-next (c .args .head .now ++ (c .args .left .now ++ c .args .right .now) ++ c .args .tail .now) _ _ (c .args .start) (c .gather .ensures) (c .words .ensures))
+    (block-next (c .args .head .now ++ (c .args .left .now ++ c .args .right .now) ++ c .args .tail .now) _ _ (c .args .start) (c .gather .ensures) (c .words .ensures))

@@ -9,6 +9,6 @@ returns c =
     record {
       within = omega arith;
       written =
-        pads (c .args .len) _ (length (c .args .tail .now)) (c .clear .last .block) (c .copy-from-slice .last .self)
-        (c .clear .ensures) (omega arith) (c .copy-from-slice .ensures .after ∙ c .to-be-bytes .ensures) (omega arith);
+          pads (c .args .len) _ (length (c .args .tail .now)) (c .clear .last .block) (c .copy-from-slice .last .self)
+          (c .clear .ensures) (omega arith) (c .copy-from-slice .ensures .after ∙ c .to-be-bytes .ensures) (omega arith);
     }
