@@ -2,13 +2,13 @@
 """A small independent model of the formats that docs/FORMAT.md describes.
 
 It shares no text with the library and needs nothing but Python 3 and its hashlib. It makes the worked example of
-docs/FORMAT.md and the file vectors/blocks.txt, and it checks the code vectors that other software made.
+docs/FORMAT.md and the file crates/vectors/data/blocks.txt, and it checks the code vectors that other software made.
 
     python3 tools/model.py selfcheck            the known values, round trips and refusals
     python3 tools/model.py example              the worked example of docs/FORMAT.md
     python3 tools/model.py lengths              the table of lengths of docs/FORMAT.md
-    python3 tools/model.py blocks               the lines of vectors/blocks.txt
-    python3 tools/model.py codes FILE           compares the lines of vectors/codes.txt with this model
+    python3 tools/model.py blocks               the lines of crates/vectors/data/blocks.txt
+    python3 tools/model.py codes FILE           compares the lines of crates/vectors/data/codes.txt with this model
 """
 import hashlib
 import sys
@@ -606,7 +606,7 @@ def lengths():
 # ---------------------------------------------------------------- vectors
 
 def block_data(k, s):
-    """The data of vectors/blocks.txt."""
+    """The data of crates/vectors/data/blocks.txt."""
     return bytes((17 * i + 5 * k + 3 * s + 1) % 253 for i in range(k * k * s))
 
 
@@ -627,7 +627,7 @@ def blocks():
 
 
 def code_data(k, s):
-    """The data of the lines of vectors/codes.txt that are not a unit table; the C and Go programs have the same rule."""
+    """The data of the lines of crates/vectors/data/codes.txt that are not a unit table; the C and Go programs have the same rule."""
     x, out = 1000 * k + s, []
     for _ in range(k * s):
         x = (1103515245 * x + 12345) % 2147483648

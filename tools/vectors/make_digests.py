@@ -1,7 +1,7 @@
 #!/usr/bin/env python3
-"""Prints vectors/digests.txt, by Python's hashlib.
+"""Prints crates/vectors/data/digests.txt, by Python's hashlib.
 
-    python3 vectors/make_digests.py > vectors/digests.txt
+    python3 tools/vectors/make_digests.py > crates/vectors/data/digests.txt
 
     digest KIND LEAD LEFT RIGHT HEX     a lead byte and two parts of LEFT and RIGHT bytes; byte 0 of the joined message is
                                         LEAD, byte i from 1 on is (31*i + 7*n + 3) % 251, where n = LEFT + RIGHT
