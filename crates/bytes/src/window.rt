@@ -18,7 +18,7 @@ fn overlay(block: &mut [u8], at: usize, part: &[u8], from: usize)
 
 // Lays a part of a message over a block of it. The block begins at place `start` of the message and the part at place `begin`; bytes
 // of the block that the part does not cover stay.
-pub fn lay(block: &mut [u8], start: usize, begin: u128, part: &[u8])
+fn lay(block: &mut [u8], start: usize, begin: u128, part: &[u8])
     ensures { λ _. ⌜ now (block .exit) ≡ laid (now (block .entry)) start begin (now (part .entry)) ⌝ }
 {
     let start = start as u128;
@@ -42,17 +42,25 @@ pub fn clear(block: &mut [u8])
     block.fill(0);
 }
 
-// Fills a block with the bytes of a message from place `start` on, 0 where the message has ended. The message is `head`, `left`,
-// `right` and `tail`, one after the other.
-pub fn gather(block: &mut [u8], start: usize, head: &[u8], left: &[u8], right: &[u8], tail: &[u8])
+// Lays the four parts of a message, one after the other, over a block of zeros.
+fn lay_parts(block: &mut [u8], start: usize, head: &[u8], left: &[u8], right: &[u8], tail: &[u8])
+    requires { ⌜ now block ≡ replicate (length (now block)) 0 ⌝ }
     ensures { λ _. ⌜ now (block .exit) ≡ window (now (head .entry) ++ (now (left .entry) ++ now (right .entry)) ++ now (tail .entry)) start (length (now (block .entry))) ⌝ }
 {
     let after_head = head.len() as u128;
     let after_left = after_head + left.len() as u128;
     let after_right = after_left + right.len() as u128;
-    clear(block);
     lay(block, start, 0, head);
     lay(block, start, after_head, left);
     lay(block, start, after_left, right);
     lay(block, start, after_right, tail);
+}
+
+// Fills a block with the bytes of a message from place `start` on, 0 where the message has ended. The message is `head`, `left`,
+// `right` and `tail`, one after the other.
+pub fn gather(block: &mut [u8], start: usize, head: &[u8], left: &[u8], right: &[u8], tail: &[u8])
+    ensures { λ _. ⌜ now (block .exit) ≡ window (now (head .entry) ++ (now (left .entry) ++ now (right .entry)) ++ now (tail .entry)) start (length (now (block .entry))) ⌝ }
+{
+    clear(block);
+    lay_parts(block, start, head, left, right, tail);
 }

@@ -16,14 +16,13 @@ use Rattle.sha256.specs.Compression.{compressed, initial}
 use Rattle.sha256.specs.Message.{wordAt, blockAt, padding, zeroCount, longBytes, valueAfter}
 
 -- what `pad` writes
-pub pads : (len k n : ℕ) (xs ys : List ℕ) → xs ≡ replicate n 0 → 72 ≤ n → ys ≡ longBytes (8 * len) → k ≡ 8
-    → take (zeroCount len + 9) (putMid (zeroCount len + 1) k (set xs 0 128) ys) ≡ padding len
+pub pads : (len n : ℕ) (xs : List ℕ) → xs ≡ replicate n 0 → 72 ≤ n
+    → take (zeroCount len + 9) (putMid (zeroCount len + 1) 8 (set xs 0 128) (longBytes (8 * len))) ≡ padding len
 unfolding padding
-pads len k n xs ys e l y eight =
-    take-putMid (zeroCount len + 1) k (set xs 0 128) ys (zeroCount len + 9) (omega (arith, ap length y)) (simp (e, length-set, length-replicate) (omega arith))
-    ∙ ap (λ zs. take (zeroCount len + 1) (set zs 0 128) ++ ys) e
-    ∙ ap (λ zs. zs ++ ys) (zeros-behind n (zeroCount len) 128 (omega arith))
-    ∙ ap (λ zs. 128 ∷ (replicate (zeroCount len) 0 ++ zs)) y
+pads len n xs e l =
+    take-putMid (zeroCount len + 1) 8 (set xs 0 128) (longBytes (8 * len)) (zeroCount len + 9) (omega arith) (simp (e, length-set, length-replicate) (omega arith))
+    ∙ ap (λ zs. take (zeroCount len + 1) (set zs 0 128) ++ longBytes (8 * len)) e
+    ∙ ap (λ zs. zs ++ longBytes (8 * len)) (zeros-behind n (zeroCount len) 128 (omega arith))
 
 -- ---- blocks
 

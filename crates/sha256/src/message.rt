@@ -6,8 +6,9 @@ use bytes::window::clear;
 use bytes::window::gather;
 ghost use Prim.Native.Nat.{_*_, _+_, _/_, _≤_};
 ghost use Rattle.sha256.specs.Compression.{compressed};
-ghost use Rattle.sha256.specs.Message.{blockAt, finalValue, padding, valueAfter, wordAt};
+ghost use Rattle.sha256.specs.Message.{blockAt, finalValue, longBytes, padding, valueAfter, wordAt};
 ghost use Rattle.sha256.specs.Vars.{vars};
+ghost use borrow.Rule.Slice.PartMut.{putMid};
 ghost use lib.ListN.{length, take};
 ghost use mathlib.Core.List.{_++_};
 ghost use mathlib.Core.Path.{_≡_};
@@ -38,6 +39,15 @@ fn words(block: &[u8], m: &mut [u32])
     }
 }
 
+// Writes the number of bits of a message of `len` bytes, in eight bytes from place `at` on, the highest first.
+fn put_length(tail: &mut [u8], at: usize, len: usize)
+    requires { ⌜ at + 8 ≤ length (now tail) ⌝ ∗ ⌜ len ≤ 8192 ⌝ }
+    ensures { λ _. ⌜ now (tail .exit) ≡ putMid at 8 (now (tail .entry)) (longBytes (8 * len)) ⌝ }
+{
+    let bits = (8 * len) as u64;
+    tail[at..at + 8].copy_from_slice(&bits.to_be_bytes());
+}
+
 // Writes what follows a message of `len` bytes, and answers how many bytes that is.
 fn pad(tail: &mut [u8], len: usize) -> usize
     requires { ⌜ length (now tail) ≡ 72 ⌝ ∗ ⌜ len ≤ 8192 ⌝ }
@@ -45,10 +55,9 @@ fn pad(tail: &mut [u8], len: usize) -> usize
     ensures written { λ r. ⌜ take r (now (tail .exit)) ≡ padding len ⌝ }
 {
     let zeros = (119 - len % BLOCK) % BLOCK;
-    let bits = (8 * len) as u64;
     clear(tail);
     tail[0] = 0x80;
-    tail[zeros + 1..zeros + 9].copy_from_slice(&bits.to_be_bytes());
+    put_length(tail, zeros + 1, len);
     zeros + 9
 }
 

@@ -1,6 +1,8 @@
-use mathlib.Core.Path.{_∙_}
+use mathlib.Core.Path.{_∙_, ap}
+use Prim.Native.Nat.{_+_}
 use native.Mathlib.Omega.{arith}
-use lib.ListN.{length}
+use lib.ListN.{length, take}
+use Rattle.sha256.specs.Message.{zeroCount}
 use Rattle.sha256.proofs.Messages.{pads}
 use Rattle.sha256.proofs.message.pad.Needs as need
 
@@ -9,6 +11,6 @@ returns c =
     record {
       within = omega arith;
       written =
-          pads (c .args .len) _ (length (c .args .tail .now)) (c .clear .last .block) (c .copy-from-slice .last .self)
-          (c .clear .ensures) (omega arith) (c .copy-from-slice .ensures .after ∙ c .to-be-bytes .ensures) (omega arith);
+          ap (take (zeroCount (c .args .len) + 9)) (c .put-length .ensures)
+          ∙ pads (c .args .len) (length (c .args .tail .now)) (c .clear .last .block) (c .clear .ensures) (omega arith);
     }

@@ -6,7 +6,7 @@ use lib.ListN.{length, length-append}
 use Rattle.std.proofs.shelf.Lists.{append-assoc}
 use Rattle.bytes.specs.Window.{window}
 use Rattle.bytes.proofs.Windows.{window-none, window-next}
-use Rattle.bytes.proofs.window.gather.Needs as need
+use Rattle.bytes.proofs.window.lay_parts.Needs as need
 
 pub returns : need.returns
 returns c =
@@ -16,7 +16,7 @@ returns c =
     let t = c .args .tail .now in
     let s = c .args .start in
     let n = length (c .args .block .now) in
-    let none = c .clear .ensures ∙ window-none s n in
+    let none = c .pre ∙ window-none s n in
     let one = window-next [] h _ _ s n 0 refl none (c .lay .ensures) in
     let two = window-next h l _ _ s n (length h) refl one (c .lay-2 .ensures) in
     let three = window-next (h ++ l) r _ _ s n (length h + length l) (omega (arith, length-append h l)) two (c .lay-3 .ensures) in
