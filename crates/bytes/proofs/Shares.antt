@@ -2,16 +2,23 @@
 use mathlib.Core.Path.{_≡_, sym, ap, _∙_, subst}
 use mathlib.Core.List.{List, _++_}
 use Prim.Native.Nat.{ℕ, zero, suc, _+_, _-_, _*_, _/_, _%_, _<_, _≤_}
-use native.Mathlib.Nat.{suc-mul, mul-le-mul-right, mul-zero, div-add-mod', mod-lt, div-lt-iff-lt-mul, zero-lt-suc, not-suc-le-zero}
+use native.Mathlib.Nat.{suc-mul, mul-le-mul-right, mul-zero, div-add-mod', mod-lt, div-lt-iff-lt-mul, zero-lt-suc, zero-add, not-suc-le-zero}
 use native.Mathlib.Omega.{arith}
+use native.Mathlib.Decide.{ℕ-discrete}
 use lib.ListN.{length, take, drop, getD, length-take, length-drop}
 use borrow.Rule.Slice.PartMut.{putMid, postOf}
 use Rattle.std.proofs.shelf.Lists.{ext-getD, getD-take, getD-drop, getD-append-left, getD-append-right, length-take-le}
-use Rattle.bytes.specs.Shares.{share, byteOf}
+use Rattle.std.specs.Iters.{counting}
+use Rattle.std.proofs.shelf.Bits.{div-mul-add, mod-mul-add}
+use Rattle.std.proofs.shelf.Counted.{length-map-counting, getD-map-counting}
+use Rattle.bytes.specs.Shares.{share, byteOf, buffer}
 
 -- share i of n lies inside
 pub share-inside : (i n s : ℕ) → i < n → i * s + s ≤ n * s
 share-inside i n s h = subst (λ (x : ℕ). x ≤ n * s) (suc-mul i s) (mul-le-mul-right s h)
+
+pub share-end : (i n s l : ℕ) → i < n → l ≡ n * s → i * s + s ≤ l
+share-end i n s l h e = subst (λ (x : ℕ). i * s + s ≤ x) (sym e) (share-inside i n s h)
 
 pub share-byte : (s i b : ℕ) (xs : List ℕ) → b < s → getD (share s i xs) b 0 ≡ byteOf s i b xs
 unfolding share
@@ -50,6 +57,23 @@ pub same-from-shares : (n s : ℕ) (xs ys : List ℕ) → length xs ≡ n * s �
 same-from-shares n s xs ys lx ly h =
     same-from-bytes n s xs ys lx ly (λ i hi b hb. bytes-from-share s i i b xs ys hb (h i hi))
 
+-- a buffer by its bytes
+pub buffer-length : (n s : ℕ) (f : ℕ → ℕ → ℕ) → length (buffer n s f) ≡ n * s
+unfolding buffer
+buffer-length n s f = length-map-counting (λ m. f (m / s) (m % s)) 0 (n * s)
+
+pub buffer-byte : (n s : ℕ) (f : ℕ → ℕ → ℕ) (i b : ℕ) → i < n → b < s → byteOf s i b (buffer n s f) ≡ f i b
+unfolding buffer
+buffer-byte n s f i b hi hb =
+    let l : i * s + s ≤ n * s = share-inside i n s hi in
+    getD-map-counting (λ m. f (m / s) (m % s)) 0 (n * s) (i * s + b) (i * s + b) 0 (omega arith) (zero-add (i * s + b))
+    ∙ ap (λ (m : ℕ). f ((i * s + b) / s) m) (mod-mul-add i s b hb) ∙ ap (λ (m : ℕ). f m b) (div-mul-add i s b hb)
+
+pub buffer-from-bytes : (n s : ℕ) (f : ℕ → ℕ → ℕ) (xs : List ℕ) → length xs ≡ n * s
+    → ((i : ℕ) → i < n → (b : ℕ) → b < s → byteOf s i b xs ≡ f i b) → xs ≡ buffer n s f
+buffer-from-bytes n s f xs long h =
+    same-from-bytes n s xs (buffer n s f) long (buffer-length n s f) (λ i hi b hb. h i hi b hb ∙ sym (buffer-byte n s f i b hi hb))
+
 -- the first k shares
 pub byte-take : (k s i b : ℕ) (xs : List ℕ) → i < k → b < s → byteOf s i b (take (k * s) xs) ≡ byteOf s i b xs
 byte-take k s i b xs hi hb =
@@ -61,7 +85,7 @@ unfolding share
 share-read s i xs = let e : i * s + s - i * s ≡ s = omega arith in ap (λ (n : ℕ). take n (drop (i * s) xs)) e
 
 -- a write to share i of n, as `&mut xs[i * s..i * s + s]` leaves it: that share, and the others
-module _ (s i n k : ℕ) (xs ys : List ℕ) (long : length xs ≡ n * s) (within : i < n) (fits : length ys ≡ s) (part : k ≡ s) where
+module _ (s i n k : ℕ) (xs ys : List ℕ) (long : length xs ≡ n * s) (within : i < n) (fits : length ys ≡ s) where
   front-long : length (take (i * s) xs) ≡ i * s
   front-long = let l : i * s + s ≤ n * s = share-inside i n s within in length-take-le (i * s) xs (omega arith)
 
@@ -76,3 +100,12 @@ module _ (s i n k : ℕ) (xs ys : List ℕ) (long : length xs ≡ n * s) (within
       let l : j * s + s ≤ i * s = share-inside j i s h in
       let f : length (take (i * s) xs) ≡ i * s = front-long in
       getD-append-left (take (i * s) xs) (ys ++ postOf (i * s) k xs) 0 (j * s + b) (omega arith) ∙ getD-take (i * s) xs (j * s + b) 0 (omega arith)
+
+  -- a loop that writes one share after the other, byte b of share j being f j b
+  pub put-more : (f : ℕ → ℕ → ℕ) → ((j : ℕ) → j < i → (b : ℕ) → b < s → byteOf s j b xs ≡ f j b) → ((b : ℕ) → b < s → getD ys b 0 ≡ f i b)
+      → (j : ℕ) → j < i + 1 → (b : ℕ) → b < s → byteOf s j b (putMid (i * s) k xs ys) ≡ f j b
+  put-more f below here j h b hb =
+      elim (ℕ-discrete j i) [
+        | yes e ↦ subst (λ (m : ℕ). byteOf s m b (putMid (i * s) k xs ys) ≡ f m b) (sym e) (byte-put-here b hb ∙ here b hb)
+        | no d ↦ byte-put-below j b (omega arith) hb ∙ below j (omega arith) b hb
+      ]

@@ -55,7 +55,7 @@ pub record Scaled (T : Table) (v : ℕ → ℕ) (k : ℕ) : Type 0 where
   pub deg : (d : ℕ → ℕ) → Deg k (word d)
   pub is : (d : ℕ → ℕ) (i : ℕ) → i < 2 * k → symbol T k d i ≡ mul (v i) (word d i)
 
-separate : (k : ℕ) (p : ℕ → ℕ) → k ≤ 128 → Places k p → ring.Separate ℕ bytes inv k p
+pub separate : (k : ℕ) (p : ℕ → ℕ) → k ≤ 128 → Places k p → ring.Separate ℕ bytes inv k p
 separate k p hk s i j hi hj d =
     let a : p i < 2 * k = s .below i hi in
     let b : p j < 2 * k = s .below j hj in

@@ -108,6 +108,11 @@ first-law k hk d i h b = data-here k hk d i h ∙ one-mul-byte (d i) b
 pub second-law : SecondLaw cauchy
 second-law k hk = second cauchy (v k) k hk (scaled k hk)
 
+-- the factors are not 0
+pub scale-unit : (k : ℕ) → k ≤ 128 → (i : ℕ) → i < 2 * k → mul (cauchyScale k i) (inv (cauchyScale k i)) ≡ 1
+unfolding cauchyScale scaled
+scale-unit k hk i h = scaled k hk .unit i h
+
 pub weight-law : WeightLaw cauchy (scaledWeight cauchyScale)
 unfolding cauchyScale scaledWeight
 weight-law k hk p s pl sb = meets cauchy (v k) k hk (scaled k hk) (first-law k hk) p s pl sb

@@ -98,8 +98,7 @@ low-bytes (a ∷ cs) (suc n) = low-bytes cs n
 some : (k : ℕ) → k ≤ 128 → (d : ℕ → ℕ) → ((j : ℕ) → j < k → d j < 256) → (P : List ℕ) × Interpolates k d P
 unfolding scaled
 some k hk d b =
-    let r = coefficients k (λ x. symbol polynomial k d x) (scaled k .deg d) in
-    (
+    let r = coefficients k (λ x. symbol polynomial k d x) (scaled k .deg d) in (
       map (λ c. c % 256) (r .0),
       record {
         degree = length-map (r .0) (λ c. c % 256) ∙ r .1;

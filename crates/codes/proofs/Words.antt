@@ -1,18 +1,15 @@
 -- Codewords of shares.
 use mathlib.Core.Path.{_≡_, refl, sym, ap, _∙_, subst}
-use mathlib.Core.List.{List, map}
-use Prim.Native.Nat.{ℕ, zero, suc, _+_, _*_, _/_, _%_, _<_, _≤_}
-use native.Mathlib.Nat.{mod-lt, mul-le-mul-right, zero-add}
+use mathlib.Core.List.{List}
+use Prim.Native.Nat.{ℕ, zero, suc, _+_, _*_, _%_, _<_, _≤_}
+use native.Mathlib.Nat.{mod-lt, mul-le-mul-right}
 use native.Mathlib.Omega.{arith}
 use lib.Dec.{lit<}
 use lib.Bits.{bitXor, xor-lt}
 use lib.ListN.{length, getD, take}
-use Rattle.std.specs.Iters.{counting}
-use Rattle.std.proofs.shelf.Bits.{div-mul-add, mod-mul-add}
 use Rattle.std.proofs.shelf.Lists.{length-take-le}
-use Rattle.std.proofs.shelf.Counted.{length-map-counting, getD-map-counting}
 use Rattle.bytes.specs.Shares.{share, byteOf}
-use Rattle.bytes.proofs.Shares.{share-inside, bytes-from-share, same-from-bytes, byte-take}
+use Rattle.bytes.proofs.Shares.{bytes-from-share, same-from-bytes, buffer-length, buffer-byte, buffer-from-bytes, byte-take}
 use Rattle.galois.specs.Field.{mul}
 use Rattle.galois.proofs.Steps.{mul-byte, mul-low-r}
 use Rattle.codes.specs.Over.{over}
@@ -50,24 +47,19 @@ first-low T law k hk d i h = sym (applied-low k (T k i) d) ∙ law k hk (λ j. d
 
 pub codeword-length : (T : Table) (k s : ℕ) (xs : List ℕ) → length (codeword T k s xs) ≡ 2 * k * s
 unfolding codeword
-codeword-length T k s xs = length-map-counting (λ n. symbol T k (λ j. byteOf s j (n % s) xs) (n / s)) 0 (2 * k * s)
+codeword-length T k s xs = buffer-length (2 * k) s (λ i b. symbol T k (λ j. byteOf s j b xs) i)
 
 -- byte b of share i is symbol i of the bytes b
 pub codeword-byte : (T : Table) (k s i b : ℕ) (xs : List ℕ) → i < 2 * k → b < s
     → byteOf s i b (codeword T k s xs) ≡ symbol T k (λ j. byteOf s j b xs) i
 unfolding codeword
-codeword-byte T k s i b xs hi hb =
-    let l : i * s + s ≤ 2 * k * s = share-inside i (2 * k) s hi in
-    getD-map-counting (λ n. symbol T k (λ j. byteOf s j (n % s) xs) (n / s)) 0 (2 * k * s) (i * s + b) (i * s + b) 0 (omega arith) (zero-add (i * s + b))
-    ∙ ap (λ (m : ℕ). symbol T k (λ j. byteOf s j m xs) ((i * s + b) / s)) (mod-mul-add i s b hb)
-    ∙ ap (λ (m : ℕ). symbol T k (λ j. byteOf s j b xs) m) (div-mul-add i s b hb)
+codeword-byte T k s i b xs hi hb = buffer-byte (2 * k) s (λ i b. symbol T k (λ j. byteOf s j b xs) i) i b hi hb
 
 -- a list of the right length with the right bytes is the codeword
 pub codeword-from-bytes : (T : Table) (k s : ℕ) (xs ws : List ℕ) → length ws ≡ 2 * k * s
     → ((i : ℕ) → i < 2 * k → (b : ℕ) → b < s → byteOf s i b ws ≡ symbol T k (λ j. byteOf s j b xs) i) → ws ≡ codeword T k s xs
-codeword-from-bytes T k s xs ws long h =
-    same-from-bytes (2 * k) s ws (codeword T k s xs) long (codeword-length T k s xs)
-    (λ i hi b hb. h i hi b hb ∙ sym (codeword-byte T k s i b xs hi hb))
+unfolding codeword
+codeword-from-bytes T k s xs ws long h = buffer-from-bytes (2 * k) s (λ i b. symbol T k (λ j. byteOf s j b xs) i) ws long h
 
 -- a codeword is that of any buffer that begins with its first k shares
 pub codeword-same : (T : Table) (k s : ℕ) (xs ys : List ℕ)

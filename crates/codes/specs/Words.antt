@@ -1,20 +1,19 @@
 -- Codewords of shares: a code is applied byte place by byte place.
 use mathlib.Core.Path.{_≡_}
-use mathlib.Core.List.{List, map}
-use Prim.Native.Nat.{ℕ, _*_, _/_, _%_, _<_, _≤_}
+use mathlib.Core.List.{List}
+use Prim.Native.Nat.{ℕ, _*_, _<_, _≤_}
 use lib.ListN.{length, getD, take}
-use Rattle.std.specs.Iters.{counting}
-use Rattle.bytes.specs.Shares.{share, byteOf}
+use Rattle.bytes.specs.Shares.{share, byteOf, buffer}
 use Rattle.codes.specs.Code.{Table, Places, symbol}
 
 -- what stands at each place of a list
 abbrev pub at : List ℕ → ℕ → ℕ
 at xs j = getD xs j 0
 
--- the codeword of the first k shares, of s bytes each, of a buffer: 2k shares one after the other. Byte n is byte n % s of share
--- n / s, and that is the symbol n / s of the k bytes that stand there in the k shares
+-- the codeword of the first k shares, of s bytes each, of a buffer: 2k shares, in which byte b of share i is symbol i of the bytes b of
+-- the k shares
 unfoldable pub codeword : Table → ℕ → ℕ → List ℕ → List ℕ
-codeword T k s xs = map (λ n. symbol T k (λ j. byteOf s j (n % s) xs) (n / s)) (counting 0 (2 * k * s))
+codeword T k s xs = buffer (2 * k) s (λ i b. symbol T k (λ j. byteOf s j b xs) i)
 
 -- ws is a codeword: it has 2k shares, and is the codeword of its own first k
 pub record IsWord (T : Table) (k s : ℕ) (ws : List ℕ) : Type 0 where

@@ -2,7 +2,7 @@ use mathlib.Core.Path.{_≡_, refl}
 use mathlib.Core.List.{[], _∷_}
 use Prim.Native.Nat.{ℕ, suc, _<_}
 use native.Mathlib.Nat.{not-suc-le-zero, le-of-suc-le-suc}
-use Rattle.bytes.specs.Shares.{share}
+use Rattle.bytes.specs.Shares.{share, buffer}
 use Rattle.galois.specs.Field.{polynomialProduct, reduced, mul, squares, inv}
 use Rattle.codes.specs.Over.{over}
 use Rattle.codes.specs.Code.{applied, lagrange, polynomial, cauchy}
@@ -16,7 +16,7 @@ below-two P a b (ℕ.suc ℕ.zero) h = b
 below-two P a b (ℕ.suc (ℕ.suc j)) h = absurd (not-suc-le-zero (le-of-suc-le-suc (le-of-suc-le-suc h)))
 
 pub returns : need.returns
-unfolding share polynomialProduct reduced mul squares inv over applied lagrange polynomial cauchy codeword
+unfolding share buffer polynomialProduct reduced mul squares inv over applied lagrange polynomial cauchy codeword
 returns c =
     record {
       by-polynomial = refl;
