@@ -1,2 +1,4 @@
 pub mod Outcome
+pub mod Shares
 pub mod Window
+pub mod Written

@@ -1,0 +1,5 @@
+pub mod Over
+pub mod Code
+pub mod Words
+pub mod Values
+pub mod Grid

@@ -1,0 +1,5 @@
+pub mod Limits
+pub mod Refusals
+pub mod Places
+pub mod Weights
+pub mod Calls

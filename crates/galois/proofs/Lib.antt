@@ -1,0 +1,5 @@
+pub mod Upto
+pub mod Linear
+pub mod Steps
+pub mod Law
+pub mod Vectors
