@@ -18,3 +18,8 @@ plain n = record { number = n; values = [] }
 abbrev pub outcome : {A E : Type 0} → (E → Refused) → Result A E → Result A Refused
 outcome told (Ok x) = Ok x
 outcome told (Err e) = Err (told e)
+
+-- the same where what the call gives is seen by a view of it
+abbrev pub outcomeBy : {A B E : Type 0} → (A → B) → (E → Refused) → Result A E → Result B Refused
+outcomeBy view told (Ok x) = Ok (view x)
+outcomeBy view told (Err e) = Err (told e)

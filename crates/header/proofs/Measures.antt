@@ -1,0 +1,48 @@
+-- What follows of the lengths of a block from an allowed k and an allowed share size.
+use mathlib.Core.Path.{_≡_, refl, sym, subst}
+use mathlib.Core.Bool.{Bool, true, _||_}
+use mathlib.Core.List.{[]}
+use mathlib.Core.Logic.{_⊎_, inl, inr}
+use Prim.Native.Nat.{ℕ, _+_, _-_, _*_, _^_, _<_, _≤_}
+use native.Mathlib.Omega.{arith}
+use Rattle.std.proofs.shelf.Bits.{mul-le}
+use Rattle.std.proofs.shelf.Tests.{or-cases, eqb-true}
+use Rattle.std.proofs.shelf.Ways.{tells}
+use lib.Dec.{eqb}
+use Rattle.erasure.specs.Limits.{okWidth, okSize}
+use Rattle.erasure.proofs.Bounds.{width-most, width-some, size-most, size-some}
+use Rattle.header.specs.Fields.{Fields}
+use Rattle.header.specs.Sizes.{width, depth, cellCount, squareLen}
+
+-- an allowed k and an allowed share size
+pub record Allowed (h : Fields) : Type 0 where
+  pub wide : okWidth (h .k) ≡ true
+  pub sized : okSize (h .s) ≡ true
+
+-- what holds of all six k holds of an allowed one
+pub width-cases : (k : ℕ) → okWidth k ≡ true → (P : ℕ → Type 0) → P 1 → P 2 → P 4 → P 8 → P 16 → P 32 → P k
+unfolding okWidth
+width-cases k w P a b c d e f =
+    one 1 a (λ w. one 2 b (λ w. one 4 c (λ w. one 8 d (λ w. one 16 e (λ w. subst P (sym (eqb-true k 32 w)) f) w) w) w) w) w
+  where
+    one : (n : ℕ) {r : Bool} → P n → (r ≡ true → P k) → (eqb k n || r) ≡ true → P k
+    one n {r} p rest w = elim (or-cases (eqb k n) r w) [ inl t ↦ subst P (sym (eqb-true k n t)) p | inr t ↦ rest t ]
+
+pub depth-most : (h : Fields) → depth h ≤ 6
+unfolding depth
+depth-most h = grind (arith, tells)
+
+pub depth-some : (h : Fields) → 1 ≤ depth h
+unfolding depth
+depth-some h = grind (arith, tells)
+
+-- the lines' trees have as many leaves as a line has cells
+pub depth-power : (h : Fields) → okWidth (h .k) ≡ true → 2 ^ depth h ≡ width h
+unfolding depth
+depth-power h w = width-cases (h .k) w (λ k. 2 ^ depth (record { k = k; s = 0; hashKind = 0; codeKind = 0; dataRoot = [] }) ≡ 2 * k) refl refl refl refl refl refl
+
+pub cells-most : (h : Fields) → okWidth (h .k) ≡ true → cellCount h ≤ 4096
+cells-most h w = let m = width-most (h .k) w in mul-le (width h) (width h) 64 64 (omega arith) (omega arith)
+
+pub square-most : (h : Fields) → Allowed h → squareLen h ≤ 2097152
+square-most h a = mul-le (cellCount h) (h .s) 4096 512 (cells-most h (a .wide)) (size-most (h .s) (a .sized))
