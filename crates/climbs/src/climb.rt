@@ -58,15 +58,23 @@ pub fn climb<H: Hash>(node: &mut [u8], place: usize, path: &[u8]) -> bool
     fits
 }
 
+fn climb_up_from_leaf<H: Hash>(value: &[u8], place: usize, path: &[u8], out: &mut [u8])
+    requires { ⌜ length (now value) ≤ partsLimit ⌝ ∗ ⌜ length (now out) ≡ digestLen ⌝ }
+    ensures { λ _. ⌜ now (out .exit) ≡ climbLeaf meaning place (now (path .entry)) (now (value .entry)) ⌝ }
+{
+    let _ = leaf_digest::<H>(value, out);
+    climb_up::<H>(out, place, path);
+}
+
 // Climbs from the value of the leaf at `place` and writes the end. Where the value is too long, `out` is no digest or `path` no row of
 // them, it answers false.
 pub fn climb_leaf<H: Hash>(value: &[u8], place: usize, path: &[u8], out: &mut [u8]) -> bool
     ensures answer { λ r. ⌜ r ≡ climbLeafFits (length (now (value .entry))) (length (now (path .entry))) (length (now (out .entry))) ⌝ }
     ensures written { λ _. ⌜ now (out .exit) ≡ cond (climbLeafFits (length (now (value .entry))) (length (now (path .entry))) (length (now (out .entry)))) (climbLeaf meaning place (now (path .entry)) (now (value .entry))) (now (out .entry)) ⌝ }
 {
-    if !is_path(path.len()) || leaf_digest::<H>(value, out).is_err() {
-        return false;
+    let fits = value.len() <= PARTS_LIMIT && is_path(path.len()) && out.len() == DIGEST_LEN;
+    if fits {
+        climb_up_from_leaf::<H>(value, place, path, out);
     }
-    climb_up::<H>(out, place, path);
-    true
+    fits
 }
