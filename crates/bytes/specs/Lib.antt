@@ -1,4 +1,5 @@
 pub mod Outcome
 pub mod Shares
+pub mod Splice
 pub mod Window
 pub mod Written

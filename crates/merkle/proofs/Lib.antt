@@ -1,0 +1,4 @@
+pub mod Climbing
+pub mod Bound
+pub mod Steps
+pub mod Layouts

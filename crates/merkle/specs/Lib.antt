@@ -1,0 +1,5 @@
+pub mod Tree
+pub mod Climb
+pub mod Binding
+pub mod Layout
+pub mod Laws
