@@ -1,7 +1,6 @@
 -- What follows of the lengths of a block from an allowed k and an allowed share size.
 use mathlib.Core.Path.{_≡_, refl, sym, subst}
 use mathlib.Core.Bool.{Bool, true, _||_}
-use mathlib.Core.List.{[]}
 use mathlib.Core.Logic.{_⊎_, inl, inr}
 use Prim.Native.Nat.{ℕ, _+_, _-_, _*_, _^_, _<_, _≤_}
 use native.Mathlib.Omega.{arith}
@@ -12,7 +11,7 @@ use lib.Dec.{eqb}
 use Rattle.erasure.specs.Limits.{okWidth, okSize}
 use Rattle.erasure.proofs.Bounds.{width-most, width-some, size-most, size-some}
 use Rattle.header.specs.Fields.{Fields}
-use Rattle.header.specs.Sizes.{width, depth, cellCount, squareLen}
+use Rattle.header.specs.Sizes.{width, depthOf, cellCount, squareLen}
 
 -- an allowed k and an allowed share size
 pub record Allowed (h : Fields) : Type 0 where
@@ -28,18 +27,18 @@ width-cases k w P a b c d e f =
     one : (n : ℕ) {r : Bool} → P n → (r ≡ true → P k) → (eqb k n || r) ≡ true → P k
     one n {r} p rest w = elim (or-cases (eqb k n) r w) [ inl t ↦ subst P (sym (eqb-true k n t)) p | inr t ↦ rest t ]
 
-pub depth-most : (h : Fields) → depth h ≤ 6
-unfolding depth
-depth-most h = grind (arith, tells)
+pub depth-most : (k : ℕ) → depthOf k ≤ 6
+unfolding depthOf
+depth-most k = grind (arith, tells)
 
-pub depth-some : (h : Fields) → 1 ≤ depth h
-unfolding depth
-depth-some h = grind (arith, tells)
+pub depth-some : (k : ℕ) → 1 ≤ depthOf k
+unfolding depthOf
+depth-some k = grind (arith, tells)
 
 -- the lines' trees have as many leaves as a line has cells
-pub depth-power : (h : Fields) → okWidth (h .k) ≡ true → 2 ^ depth h ≡ width h
-unfolding depth
-depth-power h w = width-cases (h .k) w (λ k. 2 ^ depth (record { k = k; s = 0; hashKind = 0; codeKind = 0; dataRoot = [] }) ≡ 2 * k) refl refl refl refl refl refl
+pub depth-power : (k : ℕ) → okWidth k ≡ true → 2 ^ depthOf k ≡ 2 * k
+unfolding depthOf
+depth-power k w = width-cases k w (λ k. 2 ^ depthOf k ≡ 2 * k) refl refl refl refl refl refl
 
 pub cells-most : (h : Fields) → okWidth (h .k) ≡ true → cellCount h ≤ 4096
 cells-most h w = let m = width-most (h .k) w in mul-le (width h) (width h) 64 64 (omega arith) (omega arith)

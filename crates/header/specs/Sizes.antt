@@ -4,6 +4,9 @@ use Prim.Native.Nat.{ℕ, _+_, _-_, _*_}
 use lib.Dec.{eqb, ltb}
 use Rattle.hash.specs.Digests.{digestLen}
 use Rattle.header.specs.Fields.{Fields}
+use Rattle.header.specs.Lines.{rowAt, colAt}
+use Rattle.header.specs.declared.cell.Axis.{Axis}
+use Rattle.header.specs.declared.cell.Axis.the-variants.{Row, Column}
 use Rattle.header.specs.declared.lengths.Lengths.{Lengths}
 
 -- cells of a line
@@ -11,8 +14,11 @@ abbrev pub width : Fields → ℕ
 width h = 2 * h .k
 
 -- levels of a line's tree above its leaves: 2 to this power is the width
-unfoldable pub depth : Fields → ℕ
-depth h = cond (eqb (h .k) 1) 1 (cond (eqb (h .k) 2) 2 (cond (eqb (h .k) 4) 3 (cond (eqb (h .k) 8) 4 (cond (eqb (h .k) 16) 5 6))))
+unfoldable pub depthOf : ℕ → ℕ
+depthOf k = cond (eqb k 1) 1 (cond (eqb k 2) 2 (cond (eqb k 4) 3 (cond (eqb k 8) 4 (cond (eqb k 16) 5 6))))
+
+abbrev pub depth : Fields → ℕ
+depth h = depthOf (h .k)
 
 -- the data, the square, its marks, and one line of it
 abbrev pub dataLen : Fields → ℕ
@@ -120,3 +126,22 @@ lengthsOf h = record {
 -- a cell of the square
 abbrev pub hasCell : Fields → ℕ → ℕ → Bool
 hasCell h r c = ltb r (width h) && ltb c (width h)
+
+-- the number of a cell: squares and marks go row by row
+abbrev pub cellNumber : Fields → ℕ → ℕ → ℕ
+cellNumber h r c = r * width h + c
+
+-- the number of a line, which is also its leaf in the data tree: rows first, then columns
+abbrev pub lineNumber : Fields → Axis → ℕ → ℕ
+lineNumber h Row i = i
+lineNumber h Column i = width h + i
+
+-- the axis and the index of the line with number n, and the number of its cell at place p
+abbrev pub axisOf : Fields → ℕ → Axis
+axisOf h n = cond (ltb n (width h)) Row Column
+
+abbrev pub indexOf : Fields → ℕ → ℕ
+indexOf h n = cond (ltb n (width h)) n (n - width h)
+
+abbrev pub lineCell : Fields → ℕ → ℕ → ℕ
+lineCell h n p = cellNumber h (rowAt (axisOf h n) (indexOf h n) p) (colAt (axisOf h n) (indexOf h n) p)
