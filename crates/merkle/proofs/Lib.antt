@@ -1,4 +1,5 @@
 pub mod Climbing
 pub mod Bound
+pub mod Same
 pub mod Steps
 pub mod Layouts
