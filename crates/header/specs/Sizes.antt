@@ -4,7 +4,6 @@ use Prim.Native.Nat.{ℕ, _+_, _-_, _*_}
 use lib.Dec.{eqb, ltb}
 use Rattle.hash.specs.Digests.{digestLen}
 use Rattle.header.specs.Fields.{Fields}
-use Rattle.header.specs.Lines.{rowAt, colAt}
 use Rattle.header.specs.declared.cell.Axis.{Axis}
 use Rattle.header.specs.declared.cell.Axis.the-variants.{Row, Column}
 use Rattle.header.specs.declared.lengths.Lengths.{Lengths}
@@ -136,12 +135,6 @@ abbrev pub lineNumber : Fields → Axis → ℕ → ℕ
 lineNumber h Row i = i
 lineNumber h Column i = width h + i
 
--- the axis and the index of the line with number n, and the number of its cell at place p
-abbrev pub axisOf : Fields → ℕ → Axis
-axisOf h n = cond (ltb n (width h)) Row Column
-
-abbrev pub indexOf : Fields → ℕ → ℕ
-indexOf h n = cond (ltb n (width h)) n (n - width h)
-
-abbrev pub lineCell : Fields → ℕ → ℕ → ℕ
-lineCell h n p = cellNumber h (rowAt (axisOf h n) (indexOf h n) p) (colAt (axisOf h n) (indexOf h n) p)
+-- in a square of width w, the number of the cell at place p of the line with number n: cell (n, p) of a row, cell (p, n - w) of a column
+unfoldable pub cellOn : ℕ → ℕ → ℕ → ℕ
+cellOn w n p = cond (ltb n w) (n * w + p) (p * w + (n - w))
