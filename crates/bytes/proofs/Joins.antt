@@ -5,6 +5,7 @@ use Prim.Native.Nat.{ℕ, zero, suc, _+_, _<_, _≤_}
 use native.Mathlib.Omega.{arith}
 use lib.ListN.{length, getD, take}
 use borrow.Rule.Slice.PartMut.{putMid}
+use Rattle.std.specs.Iters.{counting}
 use Rattle.std.specs.Joined.{joined}
 use Rattle.std.proofs.shelf.Lists.{joined-more, take-more, take-all}
 use Rattle.std.proofs.shelf.Parts.{take-putMid}
@@ -33,3 +34,10 @@ append-below (x ∷ xs) ys b h k (suc i) = append-below xs ys b (λ j. h (suc j)
 pub joined-below : (f : ℕ → List ℕ) (b : ℕ) → 0 < b → ((x i : ℕ) → getD (f x) i 0 < b) → (xs : List ℕ) (i : ℕ) → getD (joined f xs) i 0 < b
 joined-below f b p h [] i = p
 joined-below f b p h (x ∷ xs) i = append-below (f x) (joined f xs) b (h x) (joined-below f b p h xs) i
+
+-- what is joined depends on the parts alone
+pub joined-same : (f g : ℕ → List ℕ) (a n : ℕ) → ((i : ℕ) → i < a + n → f i ≡ g i) → joined f (counting a n) ≡ joined g (counting a n)
+joined-same f g a zero e = refl
+joined-same f g a (suc n) e =
+    ap (λ x. x ++ joined f (counting (a + 1) n)) (e a (omega arith))
+    ∙ ap (λ x. g a ++ x) (joined-same f g (a + 1) n (λ i l. e i (omega arith)))

@@ -2,15 +2,24 @@
 use mathlib.Core.Path.{_≡_, refl, ap, _∙_}
 use mathlib.Core.Bool.{Bool, true, cond}
 use mathlib.Core.List.{List}
-use Prim.Native.Nat.{ℕ, _*_, _^_, _<_, _≤_}
+use Prim.Native.Nat.{ℕ, zero, suc, _*_, _^_, _<_, _≤_}
 use native.Mathlib.Omega.{arith}
 use lib.Dec.{leb}
 use lib.ListN.{length}
 use Rattle.std.proofs.shelf.Tests.{le-leb, eq-eqb, and-from, cond-true}
-use Rattle.layout.specs.Answers.{grown, isTree, depthLimit, leafCount}
+use Rattle.hash.specs.Digests.{digestLen}
+use Rattle.layout.specs.Answers.{grown, isTree, depthLimit, leafCount, rootFits, cutRoot}
 use Rattle.merkle.specs.Climb.{Node, plainRule, joinOf, slot}
-use Rattle.merkle.specs.Layout.{treeLayout, treeLen}
-use Rattle.merkle.proofs.Same.{layout-same}
+use Rattle.merkle.specs.Tree.{node, root}
+use Rattle.merkle.specs.Layout.{treeLayout, treeLen, rootOf}
+use Rattle.merkle.proofs.Layouts.{layouts-stand}
+use Rattle.merkle.proofs.Same.{layout-same, node-same}
+use Rattle.bytes.proofs.Joins.{joined-same}
+use Rattle.std.specs.Iters.{counting}
+use Rattle.std.specs.Joined.{joined}
+use Rattle.header.specs.Sizes.{cellOn}
+use Rattle.header.proofs.Numbers.{on-below}
+use Rattle.commitment.specs.Roots.{lineLeaf, squareRoots}
 use Rattle.commitment.specs.Values.{valueLeaf, valueTree}
 
 -- a buffer of a tree's length is one
@@ -25,3 +34,31 @@ pub grown-over : (f : List ℕ → List ℕ) (leaf : ℕ → Node) (d : ℕ) (xs
     → ((j : ℕ) → j < 2 ^ d → slot j xs ≡ leaf j) → ys ≡ grown f d xs → ys ≡ treeLayout (joinOf plainRule f) d leaf
 grown-over f leaf d xs ys l n e w =
     w ∙ cond-true (isTree d (length xs)) _ _ (tree-is d (length xs) l n) ∙ layout-same (joinOf plainRule f) (λ i. slot i xs) leaf d e
+
+-- the root cut from the tree over some digests
+pub root-cut : (f : List ℕ → List ℕ) → ((m : List ℕ) → length (f m) ≡ digestLen) → (leaf : ℕ → Node) (d : ℕ) (tree out top : List ℕ) → d ≤ depthLimit
+    → ((i : ℕ) → i < 2 ^ d → length (leaf i) ≡ digestLen) → tree ≡ treeLayout (joinOf plainRule f) d leaf → length out ≡ digestLen
+    → top ≡ cutRoot d tree out → top ≡ root (joinOf plainRule f) d leaf
+root-cut f sized leaf d tree out top l digests e o w =
+    let stands = layouts-stand f sized d leaf digests in
+    let long : length tree ≡ treeLen d = ap length e ∙ stands .long in
+    w ∙ cond-true (rootFits d (length tree) (length out)) _ _ (and-from _ _ (tree-is d (length tree) l long) (eq-eqb (length out) digestLen o))
+    ∙ ap (rootOf d) e ∙ stands .last
+
+-- a root is a digest
+pub root-sized : (f : List ℕ → List ℕ) → ((m : List ℕ) → length (f m) ≡ digestLen) → (leaf : ℕ → Node) (d : ℕ)
+    → length (leaf 0) ≡ digestLen → length (root (joinOf plainRule f) d leaf) ≡ digestLen
+unfolding node
+root-sized f sized leaf zero first = first
+root-sized f sized leaf (suc d) first = sized _
+
+-- the roots from the leaf digests of all cells are those of the square
+pub roots-from-cells : (f : List ℕ → List ℕ) (w d s : ℕ) (sq cells roots : List ℕ) → w ≡ 2 ^ d
+    → ((j : ℕ) → j < w * w → slot j cells ≡ valueLeaf f s sq j)
+    → roots ≡ joined (λ n. root (joinOf plainRule f) d (λ p. slot (cellOn w n p) cells)) (counting 0 (2 * w))
+    → roots ≡ squareRoots f w d s sq
+unfolding squareRoots
+roots-from-cells f w d s sq cells roots e same r =
+    r ∙ joined-same (λ n. root (joinOf plainRule f) d (λ p. slot (cellOn w n p) cells)) (λ n. root (joinOf plainRule f) d (lineLeaf f w s sq n)) 0 (2 * w)
+    (λ n l. node-same (joinOf plainRule f) (λ p. slot (cellOn w n p) cells) (lineLeaf f w s sq n) d 0
+      (λ p b. same (cellOn w n p) (on-below w n p (omega arith) (omega arith))))

@@ -1,27 +1,36 @@
 -- The roots of a square's lines, and the data root over them.
+use mathlib.Core.Bool.{Bool, _&&_}
 use mathlib.Core.List.{List}
-use Prim.Native.Nat.{ℕ, _+_}
+use Prim.Native.Nat.{ℕ, _+_, _*_}
+use lib.Dec.{eqb}
 use Rattle.std.specs.Iters.{counting}
 use Rattle.std.specs.Joined.{joined}
 use Rattle.hash.specs.Digests.{digestLen}
 use Rattle.merkle.specs.Tree.{root}
 use Rattle.merkle.specs.Climb.{Node, plainRule, joinOf}
 use Rattle.header.specs.Fields.{Fields}
-use Rattle.header.specs.Sizes.{depth, width, lineCount, cellOn}
+use Rattle.header.specs.Sizes.{depth, width, cellOn, squareLen, rootsLen}
 use Rattle.commitment.specs.Values.{valueLeaf, valueRoot}
 
--- the node of the leaf at place p of line n: that of the share of its cell
-abbrev pub lineLeaf : (List ℕ → List ℕ) → Fields → List ℕ → ℕ → ℕ → Node
-lineLeaf f h sq n p = valueLeaf f (h .s) sq (cellOn (width h) n p)
+-- in a square of width w, whose lines' trees have depth d: the node of the leaf at place p of line n, which is that of its cell's share
+abbrev pub lineLeaf : (List ℕ → List ℕ) → ℕ → ℕ → List ℕ → ℕ → ℕ → Node
+lineLeaf f w s sq n p = valueLeaf f s sq (cellOn w n p)
 
--- the root of the tree over the shares of line n
-unfoldable pub lineRoot : (List ℕ → List ℕ) → Fields → List ℕ → ℕ → Node
-lineRoot f h sq n = root (joinOf plainRule f) (depth h) (lineLeaf f h sq n)
+-- the roots of the trees over the shares of its lines, one after the other: rows, then columns
+unfoldable pub squareRoots : (List ℕ → List ℕ) → ℕ → ℕ → ℕ → List ℕ → List ℕ
+squareRoots f w d s sq = joined (λ n. root (joinOf plainRule f) d (lineLeaf f w s sq n)) (counting 0 (2 * w))
 
--- the roots of all lines: rows, then columns
-unfoldable pub rootsOf : (List ℕ → List ℕ) → Fields → List ℕ → List ℕ
-rootsOf f h sq = joined (lineRoot f h sq) (counting 0 (lineCount h))
+-- the root of line n, and the roots of all lines, of a block's square
+abbrev pub lineRoot : (List ℕ → List ℕ) → Fields → List ℕ → ℕ → Node
+lineRoot f h sq n = root (joinOf plainRule f) (depth h) (lineLeaf f (width h) (h .s) sq n)
+
+abbrev pub rootsOf : (List ℕ → List ℕ) → Fields → List ℕ → List ℕ
+rootsOf f h sq = squareRoots f (width h) (depth h) (h .s) sq
 
 -- the data root over some roots: each is a leaf's value of the data tree
-unfoldable pub dataRootOf : (List ℕ → List ℕ) → Fields → List ℕ → Node
+abbrev pub dataRootOf : (List ℕ → List ℕ) → Fields → List ℕ → Node
 dataRootOf f h roots = valueRoot f (depth h + 1) digestLen roots
+
+-- n bytes are a square of the block, and m bytes its roots
+abbrev pub squareFits : Fields → ℕ → ℕ → Bool
+squareFits h n m = eqb n (squareLen h) && eqb m (rootsLen h)

@@ -1,5 +1,5 @@
 -- A tree depends on the leaves below it alone.
-use mathlib.Core.Path.{_≡_, refl, ap, _∙_}
+use mathlib.Core.Path.{_≡_, ap, _∙_}
 use mathlib.Core.List.{_++_}
 use Prim.Native.Nat.{ℕ, zero, suc, _+_, _*_, _^_, _<_, _≤_}
 use native.Mathlib.Nat.{pow-suc, mul-assoc, mul-le-mul-left}
@@ -7,6 +7,7 @@ use Rattle.std.proofs.shelf.Bits.{pow-add}
 use native.Mathlib.Omega.{arith}
 use Rattle.std.specs.Iters.{counting}
 use Rattle.std.specs.Joined.{joined}
+use Rattle.bytes.proofs.Joins.{joined-same}
 use Rattle.merkle.specs.Tree.{node}
 use Rattle.merkle.specs.Climb.{Node}
 use Rattle.merkle.specs.Layout.{level, levelsFrom, treeLayout}
@@ -23,12 +24,6 @@ node-same join leaf leaf′ (suc d) i h =
     ∙ ap (join (node join leaf′ d (2 * i))) (node-same join leaf leaf′ d (2 * i + 1) (λ j l. h j (omega arith)))
 
 module _ (join : Node → Node → Node) (leaf leaf′ : ℕ → Node) where
-  joined-same : (h a n : ℕ) → ((i : ℕ) → i < a + n → node join leaf h i ≡ node join leaf′ h i) → joined (node join leaf h) (counting a n) ≡ joined (node join leaf′ h) (counting a n)
-  joined-same h a zero e = refl
-  joined-same h a (suc n) e =
-      ap (λ x. x ++ joined (node join leaf h) (counting (a + 1) n)) (e a (omega arith))
-      ∙ ap (λ x. node join leaf′ h a ++ x) (joined-same h (a + 1) n (λ i l. e i (omega arith)))
-
   levels-same : (k h : ℕ) → ((j : ℕ) → j < 2 ^ (h + k) → leaf j ≡ leaf′ j) → levelsFrom join leaf h k ≡ levelsFrom join leaf′ h k
   unfolding levelsFrom level
   levels-same zero h e = node-same join leaf leaf′ h 0 (λ j l. e j (omega (arith, pow-add 2 h 0)))
@@ -36,7 +31,7 @@ module _ (join : Node → Node → Node) (leaf leaf′ : ℕ → Node) where
       let m : 2 ^ (h + suc k) ≡ 2 ^ h * 2 ^ suc k = pow-add 2 h (suc k) in
       let n : 2 ^ (h + 1 + k) ≡ 2 ^ (h + suc k) = ap (λ i. 2 ^ i) (omega arith) in
       ap (λ x. x ++ levelsFrom join leaf (h + 1) k)
-      (joined-same h 0 (2 ^ suc k) (λ i l.
+      (joined-same (node join leaf h) (node join leaf′ h) 0 (2 ^ suc k) (λ i l.
         node-same join leaf leaf′ h i (λ j b.
           let q : 2 ^ h * (i + 1) ≤ 2 ^ h * 2 ^ suc k = mul-le-mul-left (2 ^ h) (omega arith) in
           e j (omega arith))))
