@@ -20,7 +20,7 @@ use Rattle.std.specs.Joined.{joined}
 use Rattle.header.specs.Sizes.{cellOn}
 use Rattle.header.proofs.Numbers.{on-below}
 use Rattle.commitment.specs.Roots.{lineLeaf, squareRoots}
-use Rattle.commitment.specs.Values.{valueLeaf, valueTree}
+use Rattle.commitment.specs.Values.{valueLeaf, valueTree, valueRoot}
 
 -- a buffer of a tree's length is one
 pub tree-is : (d n : ℕ) → d ≤ depthLimit → n ≡ treeLen d → isTree d n ≡ true
@@ -62,3 +62,9 @@ roots-from-cells f w d s sq cells roots e same r =
     r ∙ joined-same (λ n. root (joinOf plainRule f) d (λ p. slot (cellOn w n p) cells)) (λ n. root (joinOf plainRule f) d (lineLeaf f w s sq n)) 0 (2 * w)
     (λ n l. node-same (joinOf plainRule f) (λ p. slot (cellOn w n p) cells) (lineLeaf f w s sq n) d 0
       (λ p b. same (cellOn w n p) (on-below w n p (omega arith) (omega arith))))
+
+-- the root cut from the tree over values
+pub value-root-cut : (f : List ℕ → List ℕ) → ((m : List ℕ) → length (f m) ≡ digestLen) → (d s : ℕ) (xs tree out top : List ℕ) → d ≤ depthLimit
+    → tree ≡ valueTree f d s xs → length out ≡ digestLen → top ≡ cutRoot d tree out → top ≡ valueRoot f d s xs
+unfolding valueTree valueRoot
+value-root-cut f sized d s xs tree out top l e o w = root-cut f sized (valueLeaf f s xs) d tree out top l (λ i b. sized _) e o w

@@ -25,3 +25,7 @@ valueRoot f d s xs = root (joinOf plainRule f) d (valueLeaf f s xs)
 -- 2^d values of s bytes have n bytes, and their tree has m
 abbrev pub treeFits : ℕ → ℕ → ℕ → ℕ → Bool
 treeFits d s n m = isTree d m && (leb s partsLimit && eqb n (2 ^ d * s))
+
+-- 2^d values of s bytes have n bytes, and their tree is no deeper than a data tree can be
+abbrev pub rootFits : ℕ → ℕ → ℕ → Bool
+rootFits d s n = leb d 7 && (leb s partsLimit && eqb n (2 ^ d * s))

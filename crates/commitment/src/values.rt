@@ -2,10 +2,11 @@
 ghost use Prim.Native.Nat.{ℕ, _*_, _+_, _<_, _^_, _≤_};
 ghost use Rattle.bytes.specs.Shares.{share};
 ghost use Rattle.bytes.specs.Splice.{over};
-ghost use Rattle.commitment.specs.Values.{treeFits, valueLeaf, valueTree};
+ghost use Rattle.commitment.specs.Values.{rootFits, treeFits, valueLeaf, valueRoot, valueTree};
 ghost use Rattle.hash.specs.Digests.{digestLen, partsLimit};
 ghost use Rattle.merkle.specs.Climb.{slot};
 ghost use Rattle.merkle.specs.Layout.{treeLen};
+ghost use Rattle.std.specs.declared.option.Option.the-variants.{None, Some};
 ghost use lib.ListN.{length};
 ghost use mathlib.Core.Bool.{cond};
 ghost use mathlib.Core.Path.{_≡_};
@@ -14,9 +15,13 @@ use climbs::node::leaf_digest;
 use hash::digest::Hash;
 use hash::limits::DIGEST_LEN;
 use hash::limits::PARTS_LIMIT;
+use layout::cut::tree_root;
 use layout::grow::grow;
 use layout::size::is_tree;
 use layout::size::leaves;
+
+// The tree over the roots of the largest square.
+const TREE_ROOM: usize = 8160;
 
 // Writes the digest of value i, of `size` bytes, to entry i.
 fn put_leaf<H: Hash>(values: &[u8], size: usize, i: usize, entries: &mut [u8])
@@ -63,4 +68,35 @@ pub fn value_tree<H: Hash>(values: &[u8], size: usize, depth: usize, tree: &mut 
         grow_values::<H>(values, size, depth, tree);
     }
     fits
+}
+
+// Writes the root of the tree over 2^depth values, which is worked out in `tree`.
+fn root_to<H: Hash>(values: &[u8], size: usize, depth: usize, tree: &mut [u8], top: &mut [u8])
+    requires { ⌜ depth ≤ 16 ⌝ ∗ ⌜ size ≤ partsLimit ⌝ ∗ ⌜ length (now values) ≡ 2 ^ depth * size ⌝ ∗ ⌜ length (now tree) ≡ treeLen depth ⌝ ∗ ⌜ length (now top) ≡ digestLen ⌝ }
+    ensures { λ _. ⌜ now (top .exit) ≡ valueRoot meaning depth size (now (values .entry)) ⌝ }
+{
+    grow_values::<H>(values, size, depth, tree);
+    tree_root(tree, depth, top);
+}
+
+// Whether there is a root over 2^depth values of `size` bytes that have `len` bytes.
+fn root_fits(depth: usize, size: usize, len: usize) -> bool
+    ensures { λ r. ⌜ r ≡ rootFits depth size len ⌝ }
+{
+    depth <= 7 && (size <= PARTS_LIMIT && len == leaves(depth) * size)
+}
+
+// The root of the tree over 2^depth values of `size` bytes; none where the values have another length or the tree would be deeper
+// than a data tree.
+pub fn value_root<H: Hash>(values: &[u8], size: usize, depth: usize) -> Option<[u8; DIGEST_LEN]>
+    ensures { λ r. ⌜ r ≡ cond (rootFits depth size (length (now (values .entry)))) (Some (valueRoot meaning depth size (now (values .entry)))) None ⌝ }
+{
+    if !root_fits(depth, size, values.len()) {
+        return None;
+    }
+    let mut space = [0u8; TREE_ROOM];
+    let mut top = [0u8; DIGEST_LEN];
+    let tree = &mut space[0..DIGEST_LEN * (2 * leaves(depth) - 1)];
+    root_to::<H>(values, size, depth, tree, &mut top);
+    Some(top)
 }
