@@ -1,3 +1,4 @@
 // Committing to a square: the trees of its lines, their roots, and the data root over them.
+pub mod commit;
 pub mod roots;
 pub mod values;
