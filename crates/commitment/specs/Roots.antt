@@ -2,14 +2,15 @@
 use mathlib.Core.Bool.{Bool, _&&_}
 use mathlib.Core.List.{List}
 use Prim.Native.Nat.{ℕ, _+_, _*_}
-use lib.Dec.{eqb}
+use lib.Dec.{eqb, ltb}
 use Rattle.std.specs.Iters.{counting}
 use Rattle.std.specs.Joined.{joined}
 use Rattle.hash.specs.Digests.{digestLen}
 use Rattle.merkle.specs.Tree.{root}
+use Rattle.merkle.specs.Layout.{treeLayout}
 use Rattle.merkle.specs.Climb.{Node, plainRule, joinOf}
 use Rattle.header.specs.Fields.{Fields}
-use Rattle.header.specs.Sizes.{depth, width, cellOn, squareLen, rootsLen}
+use Rattle.header.specs.Sizes.{depth, width, cellOn, lineCount, squareLen, rootsLen, axisTreeLen}
 use Rattle.commitment.specs.Values.{valueLeaf, valueRoot}
 
 -- in a square of width w, whose lines' trees have depth d: the node of the leaf at place p of line n, which is that of its cell's share
@@ -26,6 +27,14 @@ lineRoot f h sq n = root (joinOf plainRule f) (depth h) (lineLeaf f (width h) (h
 
 abbrev pub rootsOf : (List ℕ → List ℕ) → Fields → List ℕ → List ℕ
 rootsOf f h sq = squareRoots f (width h) (depth h) (h .s) sq
+
+-- the tree of line n, laid out
+unfoldable pub lineTree : (List ℕ → List ℕ) → Fields → List ℕ → ℕ → List ℕ
+lineTree f h sq n = treeLayout (joinOf plainRule f) (depth h) (lineLeaf f (width h) (h .s) sq n)
+
+-- the block has a line with number i, n bytes are its square, and m bytes the tree of a line
+abbrev pub lineFits : Fields → ℕ → ℕ → ℕ → Bool
+lineFits h i n m = ltb i (lineCount h) && (eqb n (squareLen h) && eqb m (axisTreeLen h))
 
 -- the data root over some roots: each is a leaf's value of the data tree
 abbrev pub dataRootOf : (List ℕ → List ℕ) → Fields → List ℕ → Node

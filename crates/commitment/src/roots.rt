@@ -27,7 +27,7 @@ const CELL_ROOM: usize = 131072;
 const TREE_ROOM: usize = 4064;
 
 // The number of the cell at place p of line n.
-fn cell_on(width: usize, n: usize, p: usize) -> usize
+pub(crate) fn cell_on(width: usize, n: usize, p: usize) -> usize
     requires { ⌜ width ≤ 64 ⌝ ∗ ⌜ n < 2 * width ⌝ ∗ ⌜ p < width ⌝ }
     ensures { λ r. ⌜ r ≡ cellOn width n p ⌝ }
 {

@@ -23,14 +23,15 @@ use layout::size::leaves;
 // The tree over the roots of the largest square.
 const TREE_ROOM: usize = 8160;
 
-// Writes the digest of value i, of `size` bytes, to entry i.
-fn put_leaf<H: Hash>(values: &[u8], size: usize, i: usize, entries: &mut [u8])
-    requires { ⌜ size ≤ partsLimit ⌝ ∗ ⌜ i < 2 ^ 32 ⌝ ∗ ⌜ i * size + size ≤ length (now values) ⌝ ∗ ⌜ digestLen * i + digestLen ≤ length (now entries) ⌝ }
-    ensures { λ _. ⌜ now (entries .exit) ≡ over (digestLen * i) (valueLeaf meaning size (now (values .entry)) i) (now (entries .entry)) ⌝ }
+// Writes the digest of the value with number `from`, of `size` bytes, to entry `to`.
+pub(crate) fn put_leaf<H: Hash>(values: &[u8], size: usize, from: usize, entries: &mut [u8], to: usize)
+    requires value { ⌜ size ≤ partsLimit ⌝ ∗ ⌜ from < 2 ^ 32 ⌝ ∗ ⌜ from * size + size ≤ length (now values) ⌝ }
+    requires room { ⌜ digestLen * to + digestLen ≤ length (now entries) ⌝ }
+    ensures { λ _. ⌜ now (entries .exit) ≡ over (digestLen * to) (valueLeaf meaning size (now (values .entry)) from) (now (entries .entry)) ⌝ }
 {
     let mut leaf = [0u8; DIGEST_LEN];
-    let _ = leaf_digest::<H>(&values[i * size..i * size + size], &mut leaf);
-    splice(entries, DIGEST_LEN * i, &leaf);
+    let _ = leaf_digest::<H>(&values[from * size..from * size + size], &mut leaf);
+    splice(entries, DIGEST_LEN * to, &leaf);
 }
 
 // Writes the digests of `count` values as entries one after the other.
@@ -39,7 +40,7 @@ pub(crate) fn put_leaves<H: Hash>(values: &[u8], size: usize, count: usize, entr
     ensures { λ _. ⌜ ((j : ℕ) → j < count → slot j (now (entries .exit)) ≡ valueLeaf meaning size (now (values .entry)) j) ⌝ }
 {
     for i in 0..count {
-        put_leaf::<H>(values, size, i, entries);
+        put_leaf::<H>(values, size, i, entries, i);
     }
 }
 

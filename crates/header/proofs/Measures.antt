@@ -1,5 +1,5 @@
 -- What follows of the lengths of a block from an allowed k and an allowed share size.
-use mathlib.Core.Path.{_≡_, refl, sym, subst}
+use mathlib.Core.Path.{_≡_, refl, sym, ap, _∙_, subst}
 use mathlib.Core.Bool.{Bool, true, _||_}
 use mathlib.Core.Logic.{_⊎_, inl, inr}
 use Prim.Native.Nat.{ℕ, _+_, _-_, _*_, _^_, _<_, _≤_}
@@ -11,7 +11,9 @@ use lib.Dec.{eqb}
 use Rattle.erasure.specs.Limits.{okWidth, okSize}
 use Rattle.erasure.proofs.Bounds.{width-most, width-some, size-most, size-some}
 use Rattle.header.specs.Fields.{Fields}
-use Rattle.header.specs.Sizes.{width, depthOf, cellCount, squareLen}
+use Rattle.header.specs.Sizes.{width, depthOf, cellCount, squareLen, lengthsOf}
+use Rattle.header.specs.declared.lengths.Lengths.{Lengths}
+use Rattle.hash.specs.Digests.{digestLen}
 
 -- an allowed k and an allowed share size
 pub record Allowed (h : Fields) : Type 0 where
@@ -45,3 +47,42 @@ cells-most h w = let m = width-most (h .k) w in mul-le (width h) (width h) 64 64
 
 pub square-most : (h : Fields) → Allowed h → squareLen h ≤ 2097152
 square-most h a = mul-le (cellCount h) (h .s) 4096 512 (cells-most h (a .wide)) (size-most (h .s) (a .sized))
+
+-- what a caller needs of the lengths of a block
+pub record Measured (m : Lengths) : Type 0 where
+  pub wide : m .width ≤ 64
+  pub some : 2 ≤ m .width
+  pub deep : m .depth ≤ 6
+  pub power : m .width ≡ 2 ^ m .depth
+  pub sized : m .share ≤ 512
+  pub held : 1 ≤ m .share
+  pub cells : m .cells ≡ m .width * m .width
+  pub few : m .width * m .width ≤ 4096
+  pub square : m .square ≡ m .width * m .width * m .share
+  pub lines : m .lines ≡ 2 * m .width
+  pub roots : m .roots ≡ digestLen * (2 * m .width)
+  pub axisTree : m .«axis_tree» ≡ digestLen * (2 * m .width - 1)
+  pub dataTree : m .«data_tree» ≡ digestLen * (2 * (2 * m .width) - 1)
+  pub path : m .path ≡ digestLen * (2 * m .depth + 1)
+
+pub measured : (h : Fields) (m : Lengths) → okWidth (h .k) ≡ true → okSize (h .s) ≡ true → m ≡ lengthsOf h → Measured m
+measured h m w z e =
+    let width-is : m .width ≡ 2 * h .k = ap (λ l. l .width) e in
+    let depth-is : m .depth ≡ depthOf (h .k) = ap (λ l. l .depth) e in
+    let share-is : m .share ≡ h .s = ap (λ l. l .share) e in
+    record {
+      wide = omega (arith, width-most (h .k) w);
+      some = omega (arith, width-some (h .k) w);
+      deep = omega (arith, depth-most (h .k));
+      power = width-is ∙ sym (depth-power (h .k) w) ∙ ap (λ i. 2 ^ i) (sym depth-is);
+      sized = omega (arith, size-most (h .s) z);
+      held = omega (arith, size-some (h .s) z);
+      cells = ap (λ l. l .cells) e ∙ sym (ap (λ l. l .width * l .width) e);
+      few = omega (arith, ap (λ l. l .width * l .width) e, cells-most h w);
+      square = ap (λ l. l .square) e ∙ sym (ap (λ l. l .width * l .width * l .share) e);
+      lines = omega (arith, ap (λ l. l .lines) e);
+      roots = omega (arith, ap (λ l. l .roots) e);
+      axisTree = omega (arith, ap (λ l. l .«axis_tree») e);
+      dataTree = omega (arith, ap (λ l. l .«data_tree») e);
+      path = omega (arith, ap (λ l. l .path) e);
+    }

@@ -6,7 +6,10 @@ use Rattle.commitment.proofs.values.put_leaves.Needs as need
 
 pub put-leaf-requires : need.put-leaf-requires
 put-leaf-requires g c κs =
-    (c .pre .0, (omega arith, (share-end (c .loop-i .i) (c .args .count) (c .args .size) _ (c .loop-i-test .taken) (c .pre .1 .1 .0), omega arith)))
+    record {
+      value = (c .pre .0, (omega arith, share-end (c .loop-i .i) (c .args .count) (c .args .size) _ (c .loop-i-test .taken) (c .pre .1 .1 .0)));
+      room = omega arith;
+    }
 
 pub loop-i-again : need.loop-i-again
 loop-i-again g c =
