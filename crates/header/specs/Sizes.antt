@@ -130,10 +130,14 @@ hasCell h r c = ltb r (width h) && ltb c (width h)
 abbrev pub cellNumber : Fields → ℕ → ℕ → ℕ
 cellNumber h r c = r * width h + c
 
--- the number of a line, which is also its leaf in the data tree: rows first, then columns
+-- in a square of width w, the number of the line with index i along an axis, which is also its leaf in the data tree: rows first, then
+-- columns
+abbrev pub lineNumberIn : ℕ → Axis → ℕ → ℕ
+lineNumberIn w Row i = i
+lineNumberIn w Column i = w + i
+
 abbrev pub lineNumber : Fields → Axis → ℕ → ℕ
-lineNumber h Row i = i
-lineNumber h Column i = width h + i
+lineNumber h axis i = lineNumberIn (width h) axis i
 
 -- in a square of width w, the number of the cell at place p of the line with number n: cell (n, p) of a row, cell (p, n - w) of a column
 unfoldable pub cellOn : ℕ → ℕ → ℕ → ℕ

@@ -1,0 +1,2 @@
+// Evidence that a share stands at a cell of a committed square.
+pub mod check;
