@@ -1,4 +1,5 @@
 pub mod Climbing
 pub mod Bound
+pub mod Even
 pub mod Steps
 pub mod Layouts
