@@ -2,21 +2,22 @@
 use mathlib.Core.Path.{_≡_, refl, sym, ap, subst, _∙_}
 use mathlib.Core.Bool.{true, false}
 use mathlib.Core.List.{List, [], _∷_, _++_}
-use Prim.Native.Nat.{ℕ, _/_}
+use Prim.Native.Nat.{ℕ, _-_, _*_, _/_, _≤_}
 use native.Mathlib.Omega.{arith}
 use lib.ListN.{length, take, drop}
 use Rattle.std.specs.declared.option.Option.{Option}
 use Rattle.std.specs.declared.option.Option.the-variants.{Some, None}
 use Rattle.std.specs.Options.{isSome}
-use Rattle.std.proofs.shelf.Lists.{take-at}
+use Rattle.std.proofs.shelf.Lists.{take-at, length-take-le, length-drop}
 use Rattle.std.proofs.shelf.Tests.{true≢false, false≢true}
 use Rattle.hash.specs.Digests.{digestLen}
-use Rattle.merkle.specs.Climb.{Rung, alone, plainRule, climb, inputs, levels, fromNode, fromLeaf}
+use Rattle.merkle.specs.Tree.{sides}
+use Rattle.merkle.specs.Climb.{Rung, alone, plainRule, climb, inputs, levels, rungs, fromNode, fromLeaf, throughTwo}
 use Rattle.merkle.specs.Binding.{Two, Collision, firstCollision, found, orElse, Alike, leaves, Digest}
 use Rattle.merkle.proofs.Bound.{plain-binds, first-is, alike-slots}
-use Rattle.merkle.proofs.Climbing.{climb-append}
+use Rattle.merkle.proofs.Climbing.{climb-append, from-leaf-length}
 use Rattle.merkle.proofs.Even.{Even, even}
-use Rattle.merkle.proofs.Steps.{first-in-parts}
+use Rattle.merkle.proofs.Steps.{first-in-parts, slots-take}
 use Rattle.collisions.specs.Finding.{atFront, foundLen, putOne, putOther, putEnd, InHand, Finds, Ends}
 
 none-some : {A : Type 0} (x : A) → _≡_ {A = Option A} None (Some x) → ⊥
@@ -53,6 +54,10 @@ finds f sized rs qs v w r x y x′ y′ alike long er ex ey =
       meets = λ ne e. let s = plain-binds f sized v w rs qs tt tt alike ne e in (length (s .0 .one), er ∙ ap foundLen (s .1));
     }
 
+no-two : (r : Option ℕ) (o : Option Two) → r ≡ foundLen o → isSome r ≡ false → o ≡ None
+no-two r None e h = refl
+no-two r (Some t) e h = absurd (true≢false (ap isSome (sym e) ∙ h))
+
 -- ---- from two leaf values at one place, by two whole paths of one length; `search` goes up the levels of the first
 
 module _ (f : List ℕ → List ℕ) (p : ℕ) (pa pb v w : List ℕ) (paths : length pa ≡ length pb) where
@@ -67,10 +72,6 @@ module _ (f : List ℕ → List ℕ) (p : ℕ) (pa pb v w : List ℕ) (paths : l
   leaves-find sized r x y x′ y′ long er ex ey =
       subst (λ k. Finds f (fromLeaf (levels pa) p pa) (fromLeaf k p pb) v w r x y x′ y′) same-levels
       (finds f sized (fromNode (levels pa) p pa) (fromNode (levels pa) p pb) v w r x y x′ y′ (alike-slots (levels pa) p pa pb (omega arith) (omega arith)) long er ex ey)
-
-  no-two : (r : Option ℕ) (o : Option Two) → r ≡ foundLen o → isSome r ≡ false → o ≡ None
-  no-two r None e h = refl
-  no-two r (Some t) e h = absurd (true≢false (ap isSome (sym e) ∙ h))
 
   pub ends-none : (r : Option ℕ) (a b a′ b′ : List ℕ) → r ≡ foundLen (found f (fromLeaf (levels pa) p pa) (fromLeaf (levels pa) p pb) v w) → isSome r ≡ false
       → a′ ≡ climb plainRule f (fromLeaf (levels pa) p pa) v → b′ ≡ climb plainRule f (fromLeaf (levels pa) p pb) w
@@ -141,3 +142,67 @@ module _ (f : List ℕ → List ℕ) (rs rs′ qs qs′ : List Rung) (v w : List
         meets = λ ne e.
             u .meets (λ q. let m = s .meets ne q in none-some (m .0) (m .1)) (sym (climb-append plainRule f rs qs v) ∙ e ∙ climb-append plainRule f rs′ qs′ w);
       }
+
+-- ---- chained searches
+
+module _ (f : List ℕ → List ℕ) (rs qs : List Rung) (v w : List ℕ) where
+  -- where nothing was found, the ends are written
+  pub ends-are : (r : Option ℕ) (x y x′ y′ a b a′ b′ : List ℕ) → Finds f rs qs v w r x y x′ y′ → Ends f rs qs v w a b a′ b′ → isSome r ≡ false
+      → (a′ ≡ climb plainRule f rs v) × (b′ ≡ climb plainRule f qs w)
+  ends-are r x y x′ y′ a b a′ b′ s e h =
+      let none : found f rs qs v w ≡ None = no-two r _ (s .answer) h in
+      (e .one ∙ ap (λ o. putEnd o (climb plainRule f rs v) a) none, e .other ∙ ap (λ o. putEnd o (climb plainRule f qs w) b) none)
+
+  -- the same search, said otherwise
+  pub finds-at : (rs′ qs′ : List Rung) (v′ w′ : List ℕ) (r : Option ℕ) (x y x′ y′ : List ℕ) → rs ≡ rs′ → qs ≡ qs′ → v ≡ v′ → w ≡ w′
+      → Finds f rs qs v w r x y x′ y′ → Finds f rs′ qs′ v′ w′ r x y x′ y′
+  finds-at rs′ qs′ v′ w′ r x y x′ y′ er eq ev ew s =
+      subst (λ z. Finds f rs′ qs′ v′ z r x y x′ y′) ew
+      (subst (λ z. Finds f rs′ qs′ z w r x y x′ y′) ev
+      (subst (λ z. Finds f rs′ z v w r x y x′ y′) eq
+      (subst (λ z. Finds f z qs v w r x y x′ y′) er s)))
+
+-- the parts of a path through two trees, as they are cut off
+low-rungs : (d p : ℕ) (path : List ℕ) → d ≤ levels path → fromLeaf (levels (take (digestLen * d) path)) p (take (digestLen * d) path) ≡ fromLeaf d p path
+low-rungs d p path h =
+    let n : length (take (digestLen * d) path) ≡ digestLen * d = length-take-le (digestLen * d) path (omega arith) in
+    let k : levels (take (digestLen * d) path) ≡ d = omega arith in
+    ap (λ m. fromLeaf m p (take (digestLen * d) path)) k ∙ ap (λ ys. alone ∷ rungs (sides d p) ys) (slots-take d (digestLen * d) path (omega arith))
+
+high-rungs : (d q : ℕ) (path : List ℕ) → fromLeaf (levels (drop (digestLen * d) path)) q (drop (digestLen * d) path) ≡ fromLeaf (levels path - d) q (drop (digestLen * d) path)
+high-rungs d q path =
+    let n : length (drop (digestLen * d) path) ≡ length path - digestLen * d = length-drop (digestLen * d) path in
+    let k : levels (drop (digestLen * d) path) ≡ levels path - d = omega arith in
+    ap (λ m. fromLeaf m q (drop (digestLen * d) path)) k
+
+module _ (f : List ℕ → List ℕ) (d p q : ℕ) (pa pb v w : List ℕ) (in-a : d ≤ levels pa) (in-b : d ≤ levels pb) (r : Option ℕ) (x y x₁ y₁ : List ℕ)
+    (low : Finds f (fromLeaf (levels (take (digestLen * d) pa)) p (take (digestLen * d) pa)) (fromLeaf (levels (take (digestLen * d) pb)) p (take (digestLen * d) pb)) v w r x y x₁ y₁) where
+  low-at : Finds f (fromLeaf d p pa) (fromLeaf d p pb) v w r x y x₁ y₁
+  low-at = finds-at f _ _ v w (fromLeaf d p pa) (fromLeaf d p pb) v w r x y x₁ y₁ (low-rungs d p pa in-a) (low-rungs d p pb in-b) refl refl low
+
+  even-long : length (fromLeaf d p pa) ≡ length (fromLeaf d p pb)
+  even-long = from-leaf-length d p pa ∙ sym (from-leaf-length d p pb)
+
+  -- found in the first tree
+  pub two-first : isSome r ≡ true → Finds f (throughTwo d p (levels pa - d) q pa) (throughTwo d p (levels pb - d) q pb) v w r x y x₁ y₁
+  two-first h = by r refl
+    where
+      by : (o : Option ℕ) → r ≡ o → Finds f (throughTwo d p (levels pa - d) q pa) (throughTwo d p (levels pb - d) q pb) v w r x y x₁ y₁
+      by None e = absurd (true≢false (sym h ∙ ap isSome e))
+      by (Some n) e =
+          subst (λ z. Finds f (throughTwo d p (levels pa - d) q pa) (throughTwo d p (levels pb - d) q pb) v w z x y x₁ y₁) (sym e)
+          (finds-first f (fromLeaf d p pa) (fromLeaf d p pb) (fromLeaf (levels pa - d) q (drop (digestLen * d) pa)) (fromLeaf (levels pb - d) q (drop (digestLen * d) pb)) v w even-long n x y x₁ y₁
+          (subst (λ z. Finds f (fromLeaf d p pa) (fromLeaf d p pb) v w z x y x₁ y₁) e low-at))
+
+  -- not there, and then searched from the roots reached, a and b
+  pub two-then : (s : Option ℕ) (e₁ e₂ a b x′ y′ : List ℕ) → isSome r ≡ false
+      → Ends f (fromLeaf (levels (take (digestLen * d) pa)) p (take (digestLen * d) pa)) (fromLeaf (levels (take (digestLen * d) pb)) p (take (digestLen * d) pb)) v w e₁ e₂ a b
+      → Finds f (fromLeaf (levels (drop (digestLen * d) pa)) q (drop (digestLen * d) pa)) (fromLeaf (levels (drop (digestLen * d) pb)) q (drop (digestLen * d) pb)) a b s x₁ y₁ x′ y′
+      → Finds f (throughTwo d p (levels pa - d) q pa) (throughTwo d p (levels pb - d) q pb) v w s x y x′ y′
+  two-then s e₁ e₂ a b x′ y′ h e high =
+      let at = ends-are f _ _ v w r x y x₁ y₁ e₁ e₂ a b low e h in
+      let none : r ≡ None = is-none r h in
+      finds-then f (fromLeaf d p pa) (fromLeaf d p pb) (fromLeaf (levels pa - d) q (drop (digestLen * d) pa)) (fromLeaf (levels pb - d) q (drop (digestLen * d) pb)) v w even-long s x y x₁ y₁ x′ y′
+      (subst (λ z. Finds f (fromLeaf d p pa) (fromLeaf d p pb) v w z x y x₁ y₁) none low-at)
+      (finds-at f _ _ a b _ _ _ _ s x₁ y₁ x′ y′ (high-rungs d q pa) (high-rungs d q pb)
+      (at .0 ∙ ap (λ rs. climb plainRule f rs v) (low-rungs d p pa in-a)) (at .1 ∙ ap (λ rs. climb plainRule f rs w) (low-rungs d p pb in-b)) high)

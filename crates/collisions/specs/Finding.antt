@@ -2,7 +2,7 @@
 use mathlib.Core.Path.{_≡_}
 use mathlib.Core.Bool.{Bool, _&&_}
 use mathlib.Core.List.{List, _++_}
-use Prim.Native.Nat.{ℕ, _*_, _%_, _≤_, _<_}
+use Prim.Native.Nat.{ℕ, _*_, _/_, _%_, _≤_, _<_}
 use lib.Dec.{eqb, ltb, leb}
 use lib.ListN.{length, take, drop}
 use Rattle.std.specs.declared.option.Option.{Option}
@@ -74,3 +74,17 @@ pub record Fitting (v w p q x y : ℕ) : Type 0 where
 -- and buffers of a and b bytes for the ends
 abbrev pub searchFits : ℕ → ℕ → ℕ → ℕ → ℕ → ℕ → ℕ → ℕ → Bool
 searchFits v w p q a b x y = stringsFit v w p q x y && eqb a digestLen && eqb b digestLen
+
+-- A climb through two trees: the first of depth d, and the rest of the path for the second.
+abbrev pub twoFit : ℕ → ℕ → ℕ → ℕ → ℕ → ℕ → ℕ → Bool
+twoFit d v w p q x y = stringsFit v w p q x y && leb d (p / digestLen)
+
+-- Two searches, one after the other, are one search of both parts: what the first finds, or else what the second finds from the ends
+-- that the first reached.
+pub record Chained (f : List ℕ → List ℕ) (rs rs′ qs qs′ : List Rung) (v w : List ℕ) : Type 0 where
+  pub at-first : (n : ℕ) (x y x′ y′ : List ℕ) → Finds f rs rs′ v w (Some n) x y x′ y′ → Finds f (rs ++ qs) (rs′ ++ qs′) v w (Some n) x y x′ y′
+  pub or-then : (r : Option ℕ) (x y x₁ y₁ x′ y′ : List ℕ) → Finds f rs rs′ v w None x y x₁ y₁
+      → Finds f qs qs′ (climb plainRule f rs v) (climb plainRule f rs′ w) r x₁ y₁ x′ y′ → Finds f (rs ++ qs) (rs′ ++ qs′) v w r x y x′ y′
+
+abbrev pub SearchesChain : (List ℕ → List ℕ) → Type 0
+SearchesChain f = (rs rs′ qs qs′ : List Rung) (v w : List ℕ) → length rs ≡ length rs′ → Chained f rs rs′ qs qs′ v w

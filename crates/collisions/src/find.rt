@@ -3,9 +3,10 @@ use crate::search::search_leaves;
 use hash::digest::Hash;
 use hash::limits::DIGEST_LEN;
 use hash::limits::PARTS_LIMIT;
-ghost use Rattle.collisions.specs.Finding.{Ends, Finds, Fitting, searchFits, stringsFit};
+ghost use Prim.Native.Nat.{_-_, _≤_};
+ghost use Rattle.collisions.specs.Finding.{Ends, Finds, Fitting, searchFits, stringsFit, twoFit};
 ghost use Rattle.hash.specs.Digests.{digestLen};
-ghost use Rattle.merkle.specs.Climb.{fromLeaf, levels};
+ghost use Rattle.merkle.specs.Climb.{fromLeaf, levels, throughTwo};
 ghost use Rattle.std.specs.declared.option.Option.the-variants.{None};
 ghost use lib.ListN.{length};
 ghost use mathlib.Core.Bool.{false, true};
@@ -109,6 +110,94 @@ pub fn find_collision<H: Hash>(
         path_b,
         end_a,
         end_b,
+        string_a,
+        string_b,
+    )
+}
+
+fn find_in_two<H: Hash>(
+    value_a: &[u8],
+    value_b: &[u8],
+    depth: usize,
+    place: usize,
+    next_place: usize,
+    path_a: &[u8],
+    path_b: &[u8],
+    string_a: &mut [u8],
+    string_b: &mut [u8],
+) -> Option<usize>
+    requires lengths { ⌜ Fitting (length (now «value_a»)) (length (now «value_b»)) (length (now «path_a»)) (length (now «path_b»)) (length (now «string_a»)) (length (now «string_b»)) ⌝ }
+    requires depth { ⌜ depth ≤ levels (now «path_a») ⌝ }
+    ensures { λ r. ⌜ Finds meaning (throughTwo depth place (levels (now («path_a» .entry)) - depth) «next_place» (now («path_a» .entry))) (throughTwo depth place (levels (now («path_b» .entry)) - depth) «next_place» (now («path_b» .entry))) (now («value_a» .entry)) (now («value_b» .entry)) r (now («string_a» .entry)) (now («string_b» .entry)) (now («string_a» .exit)) (now («string_b» .exit)) ⌝ }
+{
+    let cut = DIGEST_LEN * depth;
+    let mut root_a = [0u8; DIGEST_LEN];
+    let mut root_b = [0u8; DIGEST_LEN];
+    let low = find::<H>(
+        value_a,
+        value_b,
+        place,
+        &path_a[..cut],
+        &path_b[..cut],
+        &mut root_a,
+        &mut root_b,
+        string_a,
+        string_b,
+    );
+    if low.is_some() {
+        return low;
+    }
+    let mut end_a = [0u8; DIGEST_LEN];
+    let mut end_b = [0u8; DIGEST_LEN];
+    find::<H>(
+        &root_a,
+        &root_b,
+        next_place,
+        &path_a[cut..],
+        &path_b[cut..],
+        &mut end_a,
+        &mut end_b,
+        string_a,
+        string_b,
+    )
+}
+
+// The same through two trees, one after the other: up the `depth` levels of the first from the leaf at `place`, and by the rest of the
+// path up the second, in which the first one's root is the value of the leaf at `next_place`.
+pub fn find_collision_through<H: Hash>(
+    value_a: &[u8],
+    value_b: &[u8],
+    depth: usize,
+    place: usize,
+    next_place: usize,
+    path_a: &[u8],
+    path_b: &[u8],
+    string_a: &mut [u8],
+    string_b: &mut [u8],
+) -> Option<usize>
+    ensures finds { λ r. ⌜ (twoFit depth (length (now («value_a» .entry))) (length (now («value_b» .entry))) (length (now («path_a» .entry))) (length (now («path_b» .entry))) (length (now («string_a» .entry))) (length (now («string_b» .entry))) ≡ true → Finds meaning (throughTwo depth place (levels (now («path_a» .entry)) - depth) «next_place» (now («path_a» .entry))) (throughTwo depth place (levels (now («path_b» .entry)) - depth) «next_place» (now («path_b» .entry))) (now («value_a» .entry)) (now («value_b» .entry)) r (now («string_a» .entry)) (now («string_b» .entry)) (now («string_a» .exit)) (now («string_b» .exit))) ⌝ }
+    ensures unfit { λ r. ⌜ (twoFit depth (length (now («value_a» .entry))) (length (now («value_b» .entry))) (length (now («path_a» .entry))) (length (now («path_b» .entry))) (length (now («string_a» .entry))) (length (now («string_b» .entry))) ≡ false → (r ≡ None) × (now («string_a» .exit) ≡ now («string_a» .entry)) × (now («string_b» .exit) ≡ now («string_b» .entry))) ⌝ }
+{
+    let fits = strings_fit(
+        value_a.len(),
+        value_b.len(),
+        path_a.len(),
+        path_b.len(),
+        string_a.len(),
+        string_b.len(),
+    )
+        && depth <= path_a.len() / DIGEST_LEN;
+    if !fits {
+        return None;
+    }
+    find_in_two::<H>(
+        value_a,
+        value_b,
+        depth,
+        place,
+        next_place,
+        path_a,
+        path_b,
         string_a,
         string_b,
     )

@@ -6,7 +6,7 @@ use native.Mathlib.Omega.{arith}
 use lib.ListN.{length, take, drop}
 use mathlib.Core.Bool.{true, false, cond}
 use mathlib.Core.Logic.{_⊎_, inl, inr}
-use Rattle.std.proofs.shelf.Lists.{drop-drop, length-drop, length-take-le}
+use Rattle.std.proofs.shelf.Lists.{drop-drop, drop-take, take-take, length-drop, length-take-le}
 use Rattle.std.proofs.shelf.Tests.{cond-true, cond-false, cases-bool}
 use Rattle.std.specs.declared.option.Option.{Option}
 use Rattle.std.specs.declared.option.Option.the-variants.{Some, None}
@@ -74,6 +74,18 @@ pub slot-cut : (i : ℕ) (path : List ℕ) → take (digestLen * i + digestLen -
 slot-cut i path =
     let n : digestLen * i + digestLen - digestLen * i ≡ digestLen = omega arith in
     ap (λ k. take k (drop (digestLen * i) path)) n
+
+-- the first k digests of a front that has them
+pub slots-take : (k n : ℕ) (xs : List ℕ) → digestLen * k ≤ n → slots k (take n xs) ≡ slots k xs
+unfolding slots
+slots-take zero n xs h = refl
+slots-take (suc k) n xs h =
+    let m = n - digestLen in
+    let e : n ≡ digestLen + m = omega arith in
+    ap (λ z. z ∷ slots k (drop digestLen (take n xs))) (take-take digestLen n xs (omega arith))
+    ∙ ap (λ z. take digestLen xs ∷ slots k (drop digestLen (take z xs))) e
+    ∙ ap (λ z. take digestLen xs ∷ slots k z) (drop-take digestLen m xs)
+    ∙ ap (λ z. take digestLen xs ∷ z) (slots-take k m (drop digestLen xs) (omega arith))
 
 none-some : (t : Two) → _≡_ {A = Option Two} None (Some t) → ⊥
 none-some t e = let z : _≡_ {A = ℕ} 0 1 = cc in omega arith
