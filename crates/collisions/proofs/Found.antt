@@ -1,7 +1,7 @@
 -- What a search finds is a collision in hand, and a search in two parts is one search.
 use mathlib.Core.Path.{_≡_, refl, sym, ap, subst, _∙_}
 use mathlib.Core.Bool.{true, false}
-use mathlib.Core.List.{List, [], _∷_, _++_}
+use mathlib.Core.List.{List, _∷_, _++_}
 use Prim.Native.Nat.{ℕ, _-_, _*_, _/_, _≤_}
 use native.Mathlib.Omega.{arith}
 use lib.ListN.{length, take, drop}
@@ -12,16 +12,13 @@ use Rattle.std.proofs.shelf.Lists.{take-at, length-take-le, length-drop}
 use Rattle.std.proofs.shelf.Tests.{true≢false, false≢true}
 use Rattle.hash.specs.Digests.{digestLen}
 use Rattle.merkle.specs.Tree.{sides}
-use Rattle.merkle.specs.Climb.{Rung, alone, plainRule, climb, inputs, levels, rungs, fromNode, fromLeaf, throughTwo}
-use Rattle.merkle.specs.Binding.{Two, Collision, firstCollision, found, orElse, Alike, leaves, Digest}
-use Rattle.merkle.proofs.Bound.{plain-binds, first-is, alike-slots}
+use Rattle.merkle.specs.Climb.{Rung, alone, plainRule, climb, levels, rungs, fromNode, fromLeaf, throughTwo}
+use Rattle.merkle.specs.Binding.{Two, Collision, found, orElse, Alike, leaves, Digest}
+use Rattle.merkle.proofs.Bound.{plain-binds, first-is, alike-slots, none-some}
 use Rattle.merkle.proofs.Climbing.{climb-append, from-leaf-length}
 use Rattle.merkle.proofs.Even.{Even, even}
 use Rattle.merkle.proofs.Steps.{first-in-parts, slots-take}
-use Rattle.collisions.specs.Finding.{atFront, foundLen, putOne, putOther, putEnd, InHand, Finds, Ends}
-
-none-some : {A : Type 0} (x : A) → _≡_ {A = Option A} None (Some x) → ⊥
-none-some x e = let z : _≡_ {A = ℕ} 0 1 = cc in omega arith
+use Rattle.collisions.specs.Finding.{foundLen, putOne, putOther, putEnd, InHand, Finds, Ends}
 
 some-is : (m n : ℕ) → _≡_ {A = Option ℕ} (Some m) (Some n) → m ≡ n
 some-is m n e = cc

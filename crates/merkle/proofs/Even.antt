@@ -1,6 +1,6 @@
 -- The two strings of a collision that climbs show are equally long.
-use mathlib.Core.Path.{_≡_, refl, sym, ap, _∙_}
-use mathlib.Core.List.{List, [], _∷_, _++_}
+use mathlib.Core.Path.{_≡_, sym, ap, _∙_}
+use mathlib.Core.List.{List, _∷_, _++_}
 use Prim.Native.Nat.{ℕ, suc, _+_}
 use native.Mathlib.Omega.{arith}
 use lib.ListN.{length, length-append}
@@ -8,8 +8,8 @@ use Rattle.std.specs.declared.option.Option.{Option}
 use Rattle.std.specs.declared.option.Option.the-variants.{Some, None}
 use Rattle.std.proofs.shelf.Tests.{cond-both}
 use Rattle.hash.specs.Digests.{digestLen}
-use Rattle.merkle.specs.Tree.{Side, right, left}
-use Rattle.merkle.specs.Climb.{Rung, alone, beside, plainRule, inputs}
+use Rattle.merkle.specs.Tree.{right, left}
+use Rattle.merkle.specs.Climb.{Rung, inputs}
 use Rattle.merkle.specs.Binding.{Two, collides, found, firstCollision, Alike, ends, leaves, pairs, Digest}
 
 abbrev pub Even : Option Two → Type 0

@@ -1,4 +1,4 @@
-use mathlib.Core.Path.{refl, sym, ap, _∙_}
+use mathlib.Core.Path.{refl, _∙_}
 use native.Mathlib.Omega.{arith}
 use Rattle.collisions.proofs.Found.{leaves-find, ends-none, ends-some, is-none}
 use Rattle.collisions.proofs.find.find.Needs as need

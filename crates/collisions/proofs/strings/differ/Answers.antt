@@ -1,6 +1,5 @@
 use mathlib.Core.Path.{_≡_, sym, ap, _∙_}
-use mathlib.Core.Bool.{true, false, not, _&&_}
-use native.Mathlib.Omega.{arith}
+use mathlib.Core.Bool.{not, _&&_}
 use Rattle.std.specs.shelf.Text.{sameBytes}
 use Rattle.std.proofs.shelf.Tests.{and-left}
 use Rattle.collisions.proofs.Joined.{same-pairs, and-true}
