@@ -1,14 +1,13 @@
 -- Parts written over a buffer.
 use mathlib.Core.Path.{_≡_, refl, sym, ap, _∙_}
-use mathlib.Core.Bool.{true}
-use mathlib.Core.List.{List, [], _∷_, _++_}
+use mathlib.Core.List.{List, _++_}
 use Prim.Native.Nat.{ℕ, _+_, _≤_}
 use native.Mathlib.Omega.{arith}
-use lib.ListN.{length, take, drop, length-append, length-take, length-drop}
+use lib.ListN.{length, take, drop, length-append, length-drop}
 use borrow.Rule.Slice.PartMut.{putMid}
 use Rattle.std.proofs.shelf.Lists.{append-assoc, take-all, length-take-le}
-use Rattle.std.proofs.shelf.Parts.{putMid-paste, take-putMid-below, take-putMid, drop-putMid, between-putMid}
-use Rattle.std.proofs.shelf.Tests.{le-leb, lt-leb, cond-true, cond-false}
+use Rattle.std.proofs.shelf.Parts.{putMid-paste, take-putMid-below, take-putMid, drop-putMid}
+use Rattle.std.proofs.shelf.Tests.{le-leb, cond-true}
 use Rattle.bytes.specs.Splice.{roomAt, over, spliced}
 
 -- what the code writes is that

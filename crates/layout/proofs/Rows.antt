@@ -1,8 +1,8 @@
 -- Rows of digests, written one by one.
-use mathlib.Core.Path.{_≡_, refl, sym, ap, _∙_}
-use mathlib.Core.Logic.{_⊎_, inl, inr}
-use mathlib.Core.List.{List, [], _∷_, _++_}
-use Prim.Native.Nat.{ℕ, zero, suc, _+_, _-_, _*_, _/_, _^_, _<_, _≤_}
+use mathlib.Core.Path.{_≡_, sym, ap, _∙_}
+use mathlib.Core.Logic.{inl, inr}
+use mathlib.Core.List.{List, _++_}
+use Prim.Native.Nat.{ℕ, suc, _+_, _-_, _*_, _/_, _^_, _<_, _≤_}
 use native.Mathlib.Nat.{pow-suc}
 use native.Mathlib.Omega.{arith}
 use lib.ListN.{length, take, drop, length-drop}
@@ -11,17 +11,11 @@ use Rattle.std.proofs.shelf.Tests.{cases-eq}
 use Rattle.bytes.specs.Splice.{over, spliced}
 use Rattle.bytes.proofs.Splices.{spliced-in, take-over}
 use Rattle.hash.specs.Digests.{digestLen}
-use Rattle.merkle.specs.Tree.{node, flip}
+use Rattle.merkle.specs.Tree.{flip}
 use Rattle.merkle.specs.Climb.{Node, slot}
-use Rattle.merkle.specs.Layout.{pathOf, levelsFrom, treeLayout, treeLen}
+use Rattle.merkle.specs.Layout.{pathOf, treeLayout, treeLen}
 use Rattle.merkle.proofs.Climbing.{node-start}
 use Rattle.merkle.proofs.Layouts.{levels-by, path-more, path-none}
-
--- a digest as the code cuts it out
-pub cut : (k a e : ℕ) (xs : List ℕ) → a ≡ digestLen * k → e ≡ a + digestLen → take (e - a) (drop a xs) ≡ slot k xs
-cut k a e xs ea ee =
-    let n : e - a ≡ digestLen = omega arith in
-    ap (λ m. take m (drop a xs)) n ∙ ap (λ m. take digestLen (drop m xs)) ea
 
 slot-front : (j : ℕ) (xs ys : List ℕ) → digestLen * j + digestLen ≤ length xs → slot j (xs ++ ys) ≡ slot j xs
 slot-front j xs ys h =

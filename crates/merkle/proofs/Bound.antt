@@ -1,21 +1,21 @@
 -- Climbs bind.
-use mathlib.Core.Path.{_≡_, refl, sym, ap, subst, _∙_}
+use mathlib.Core.Path.{_≡_, sym, ap, subst, _∙_}
 use mathlib.Core.Logic.{_⊎_, inl, inr}
-use mathlib.Core.Bool.{Bool, true, false, cond, not, _&&_}
+use mathlib.Core.Bool.{true, false, not}
 use mathlib.Core.List.{List, [], _∷_, _++_}
-use Prim.Native.Nat.{ℕ, zero, suc, _+_, _*_, _/_, _^_, _<_, _≤_, _-_}
+use Prim.Native.Nat.{ℕ, zero, suc, _+_, _*_, _/_, _<_, _≤_, _-_}
 use native.Mathlib.Omega.{arith}
-use lib.ListN.{length, getD, take, drop, length-take, length-drop}
+use lib.ListN.{length, getD, take, drop, length-drop}
 use Rattle.std.specs.shelf.Text.{sameBytes}
 use Rattle.std.proofs.shelf.Equals.{sameBytes-decides}
-use Rattle.std.proofs.shelf.Lists.{take-at, drop-at, length-take-le, drop-drop}
+use Rattle.std.proofs.shelf.Lists.{take-at, drop-at, length-take-le}
 use Rattle.std.proofs.shelf.Tests.{cases-bool, both-ways, cond-true, cond-false, and-from, and-right, and-parts, not-from-false, not-true}
 use Rattle.std.specs.declared.option.Option.{Option}
 use Rattle.std.specs.declared.option.Option.the-variants.{Some, None}
 use Rattle.hash.specs.Digests.{digestLen}
-use Rattle.merkle.specs.Tree.{Side, right, left, side, sides, paired}
-use Rattle.merkle.specs.Climb.{Node, Rule, Rung, alone, beside, plainRule, leafOf, joinOf, rungs, input, above, climb, inputs, slots, throughTwo}
-use Rattle.merkle.specs.Binding.{Two, Collision, collides, firstCollision, Binding, Alike, ends, leaves, pairs, Shows, Binds, NodesBind, Any, Digest, AtFirst}
+use Rattle.merkle.specs.Tree.{right, left, side, sides}
+use Rattle.merkle.specs.Climb.{Node, Rule, Rung, plainRule, leafOf, joinOf, rungs, climb, inputs, slots}
+use Rattle.merkle.specs.Binding.{Two, Collision, collides, firstCollision, Binding, Alike, ends, leaves, pairs, Shows, Binds, NodesBind, Any, Digest}
 use Rattle.merkle.specs.Laws.{TwoBind, FirstIs}
 
 -- two strings are equal or they are not
@@ -116,8 +116,8 @@ two-bind f sized d p e q v v′ path path′ h h′ n k =
 some-is : (s t : Two) → _≡_ {A = Option Two} (Some s) (Some t) → s ≡ t
 some-is s t e = cc
 
-none-some : (t : Two) → _≡_ {A = Option Two} None (Some t) → ⊥
-none-some t e = let z : _≡_ {A = ℕ} 0 1 = cc in omega arith
+pub none-some : {A : Type 0} (x : A) → _≡_ {A = Option A} None (Some x) → ⊥
+none-some x e = let z : _≡_ {A = ℕ} 0 1 = cc in omega arith
 
 pub collides-is : (f : List ℕ → List ℕ) (x y : List ℕ) → collides f x y ≡ true → Collision f (record { one = x; other = y })
 collides-is f x y h =

@@ -1,19 +1,17 @@
 -- The laws of climbs.
-use mathlib.Core.Path.{_≡_, refl, sym, ap, subst, _∙_}
-use mathlib.Core.Logic.{_⊎_, inl, inr}
-use mathlib.Core.Bool.{Bool, true, false, cond}
+use mathlib.Core.Path.{_≡_, refl, sym, ap, _∙_}
+use mathlib.Core.Logic.{inl, inr}
 use mathlib.Core.List.{List, [], _∷_, _++_}
-use Prim.Native.Nat.{ℕ, zero, suc, _+_, _-_, _*_, _/_, _%_, _^_, _<_, _≤_}
+use Prim.Native.Nat.{ℕ, zero, suc, _+_, _-_, _*_, _/_, _%_, _^_, _<_}
 use native.Mathlib.Nat.{pow-suc}
 use native.Mathlib.Numerals.{add-one}
 use native.Mathlib.Omega.{arith}
-use lib.ListN.{length, take, drop, length-append}
-use lib.Dec.{eqb}
+use lib.ListN.{length, drop}
 use Rattle.std.proofs.shelf.Tests.{cases-eq, eq-eqb, ne-eqb}
 use Rattle.hash.specs.Digests.{digestLen}
 use Rattle.merkle.specs.Tree.{node, root, path, siblings, Side, right, left, side, sides, flip, paired}
-use Rattle.merkle.specs.Climb.{Node, Rule, Rung, leafOf, joinOf, rungs, input, above, climb, inputs, slots, fromLeaf}
-use Rattle.merkle.specs.Laws.{ClimbsOwn, Lengths, Parts}
+use Rattle.merkle.specs.Climb.{Node, Rule, Rung, joinOf, rungs, input, above, climb, inputs, slots, fromLeaf}
+use Rattle.merkle.specs.Laws.{Lengths, Parts}
 
 pub node-start : {N : Type 0} (join : N → N → N) (leaf : ℕ → N) (j : ℕ) → node join leaf 0 j ≡ leaf j
 unfolding node

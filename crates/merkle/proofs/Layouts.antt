@@ -1,6 +1,6 @@
 -- Trees laid out in bytes.
 use mathlib.Core.Path.{_≡_, refl, sym, ap, _∙_}
-use mathlib.Core.Logic.{_⊎_, inl, inr}
+use mathlib.Core.Logic.{inl, inr}
 use mathlib.Core.List.{List, [], _∷_, _++_}
 use Prim.Native.Nat.{ℕ, zero, suc, _+_, _-_, _*_, _/_, _%_, _^_, _<_, _≤_}
 use native.Mathlib.Nat.{pow-suc, sub-zero}
@@ -10,16 +10,15 @@ use lib.Pow.{pow-mono}
 use lib.Seq.{take-add}
 use Rattle.std.specs.Iters.{counting}
 use Rattle.std.specs.Joined.{joined}
-use Rattle.std.proofs.shelf.Lists.{drop-drop, drop-append-le, take-append-le, drop-at, take-at, take-all, take-take, take-append-drop, append-assoc, length-take-le}
+use Rattle.std.proofs.shelf.Lists.{drop-drop, drop-at, take-at, take-all, take-take, take-append-drop, append-assoc, length-take-le}
 use Rattle.std.proofs.shelf.Tests.{cases-eq}
 use Rattle.hash.specs.Digests.{digestLen}
 use Rattle.merkle.specs.Tree.{node, root, path, siblings, flip, sides}
-use Rattle.merkle.specs.Climb.{Node, plainRule, joinOf, slot, slots, rungs, climb, fromNode}
-use Rattle.merkle.specs.Binding.{Digest}
-use Rattle.merkle.specs.Layout.{level, levelsFrom, treeLayout, treeLen, levelStart, rootOf, pathOf}
-use Rattle.merkle.specs.Laws.{LaysOut, LayoutsStand, FrontStays}
-use Rattle.merkle.proofs.Climbing.{node-start, node-more, flip-even, flip-odd, climbs-own}
-use Rattle.merkle.proofs.Steps.{slot-length}
+use Rattle.merkle.specs.Climb.{Node, plainRule, joinOf, slot, slots, rungs, alone, climb, levels, fromNode, fromLeaf}
+use Rattle.merkle.specs.Layout.{level, levelsFrom, treeLayout, treeLen, levelStart, pathOf}
+use Rattle.merkle.specs.Laws.{LayoutsStand, FrontStands, ClimbsBoth}
+use Rattle.merkle.proofs.Climbing.{node-start, node-more, flip-even, flip-odd, climbs-own, climb-append}
+use Rattle.merkle.proofs.Steps.{slot-length, slots-take, climb-more}
 
 -- ---- digests in a row
 
@@ -180,6 +179,20 @@ module _ (join : Node → Node → Node) (leaf : ℕ → Node) where
         ∙ ap (λ z. node join leaf h (flip p) ∷ slots k (pathOf k (p / 2) z)) (drop-at front rest (digestLen * w) (level-long h w all))
         ∙ ap (λ z. node join leaf h (flip p) ∷ z) (levels-path k (h + 1) (p / 2) (omega arith) (λ i b. next-long h i))
 
+-- a path's length, whatever the bytes are that it is cut from
+pub path-long : (d p : ℕ) (xs : List ℕ) → p < 2 ^ d → treeLen d ≤ length xs → length (pathOf d p xs) ≡ digestLen * d
+unfolding pathOf
+path-long zero p xs l h = refl
+path-long (suc k) p xs l h =
+    let n = 2 ^ k in
+    let w = 2 ^ suc k in
+    let e : w ≡ n * 2 = pow-suc 2 k in
+    let within : flip p < w = flip-below p n w l (omega arith) in
+    let here : length (slot (flip p) xs) ≡ digestLen = slot-length (flip p) xs (omega arith) in
+    let rest : length (drop (digestLen * w) xs) ≡ length xs - digestLen * w = length-drop (digestLen * w) xs in
+    let up = path-long k (p / 2) (drop (digestLen * w) xs) (omega arith) (omega arith) in
+    length-append (slot (flip p) xs) (pathOf k (p / 2) (drop (digestLen * w) xs)) ∙ omega arith
+
 pub layouts-stand : (f : List ℕ → List ℕ) → ((m : List ℕ) → length (f m) ≡ digestLen) → LayoutsStand f
 layouts-stand f sized d leaf all =
     let J = joinOf plainRule f in
@@ -190,15 +203,24 @@ layouts-stand f sized d leaf all =
     let none-left : d - d ≡ 0 = omega arith in
     let one : 2 ^ (d - d) ≡ 1 = ap (λ n. 2 ^ n) none-left in
     let own : (p : ℕ) → p < 2 ^ d → slots d (pathOf d p (treeLayout J d leaf)) ≡ path J d leaf p = λ p l. levels-path J leaf long d 0 p l low in
+    let size = levels-long J leaf long d 0 low in
+    let path-size : (p : ℕ) → p < 2 ^ d → length (pathOf d p (treeLayout J d leaf)) ≡ digestLen * d = λ p l. path-long d p (treeLayout J d leaf) l (omega arith) in
     record {
-      long = levels-long J leaf long d 0 low;
+      long = size;
       entry = entries;
       last = ap (λ n. slot n (treeLayout J d leaf)) (omega arith) ∙ entries d 0 (omega arith) (omega arith);
       paths = own;
-      climbs = λ p l. ap (λ ys. climb plainRule f (rungs (sides d p) ys) (leaf p)) (own p l) ∙ climbs-own plainRule f leaf d p l;
+      path-long = path-size;
+      climbs = λ p l.
+          let z = path-size p l in
+          let k : levels (pathOf d p (treeLayout J d leaf)) ≡ d = omega arith in
+          ap (λ m. climb plainRule f (fromNode m p (pathOf d p (treeLayout J d leaf))) (leaf p)) k
+          ∙ ap (λ ys. climb plainRule f (rungs (sides d p) ys) (leaf p)) (own p l)
+          ∙ climbs-own plainRule f leaf d p l;
     }
 
-pub front-stays : (f : List ℕ → List ℕ) → FrontStays f
+front-stays : (f : List ℕ → List ℕ) (d : ℕ) (xs : List ℕ) → digestLen * 2 ^ d ≤ length xs
+    → take (digestLen * 2 ^ d) (treeLayout (joinOf plainRule f) d (λ i. slot i xs)) ≡ take (digestLen * 2 ^ d) xs
 unfolding levelsFrom level
 front-stays f zero xs h =
     let J = joinOf plainRule f in
@@ -209,6 +231,32 @@ front-stays f (suc k) xs h =
     let w = 2 ^ suc k in
     let same : take (digestLen * w) xs ≡ level J leaf 0 w = joined-slots (node J leaf 0) 0 w xs h (λ i l. sym (node-start J leaf i) ∙ ap (node J leaf 0) (omega arith)) in
     take-at (level J leaf 0 w) (levelsFrom J leaf 1 k) (digestLen * w) (ap length (sym same) ∙ length-take-le (digestLen * w) xs h) ∙ sym same
+
+pub front-stands : (f : List ℕ → List ℕ) → ((m : List ℕ) → length (f m) ≡ digestLen) → FrontStands f
+front-stands f sized d xs h = (layouts-stand f sized d (λ i. slot i xs) (λ i l. slot-length i xs (omega arith)), front-stays f d xs h)
+
+pub climbs-both : (f : List ℕ → List ℕ) → ((m : List ℕ) → length (f m) ≡ digestLen) → ClimbsBoth f
+climbs-both f sized d p e q leaf next v l m all all′ at-p at-q =
+    let J = joinOf plainRule f in
+    let low = layouts-stand f sized d leaf all in
+    let high = layouts-stand f sized e next all′ in
+    let A = pathOf d p (treeLayout J d leaf) in
+    let B = pathOf e q (treeLayout J e next) in
+    let size : length A ≡ digestLen * d = low .path-long p l in
+    let front : slots d (A ++ B) ≡ path J d leaf p =
+    sym (slots-take d (digestLen * d) (A ++ B) (omega arith)) ∙ ap (slots d) (take-at A B (digestLen * d) size) ∙ low .paths p l in
+    let first : climb plainRule f (fromLeaf d p (A ++ B)) v ≡ root J d leaf =
+    climb-more plainRule f alone (fromNode d p (A ++ B)) v
+    ∙ ap (climb plainRule f (fromNode d p (A ++ B))) (sym at-p)
+    ∙ ap (λ ys. climb plainRule f (rungs (sides d p) ys) (leaf p)) front
+    ∙ climbs-own plainRule f leaf d p l in
+    climb-append plainRule f (fromLeaf d p (A ++ B)) (fromLeaf e q (drop (digestLen * d) (A ++ B))) v
+    ∙ ap (climb plainRule f (fromLeaf e q (drop (digestLen * d) (A ++ B)))) first
+    ∙ ap (λ z. climb plainRule f (fromLeaf e q z) (root J d leaf)) (drop-at A B (digestLen * d) size)
+    ∙ climb-more plainRule f alone (fromNode e q B) (root J d leaf)
+    ∙ ap (climb plainRule f (fromNode e q B)) (sym at-q)
+    ∙ ap (λ ys. climb plainRule f (rungs (sides e q) ys) (next q)) (high .paths q m)
+    ∙ climbs-own plainRule f next e q m
 
 -- ---- paths, level by level
 

@@ -4,18 +4,19 @@ use mathlib.Core.List.{List, [], _∷_, _++_}
 use Prim.Native.Nat.{ℕ, zero, suc, _+_, _-_, _*_, _/_, _<_, _≤_}
 use native.Mathlib.Omega.{arith}
 use lib.ListN.{length, take, drop}
-use mathlib.Core.Bool.{true, false, cond}
-use mathlib.Core.Logic.{_⊎_, inl, inr}
-use Rattle.std.proofs.shelf.Lists.{drop-drop, length-drop, length-take-le}
+use mathlib.Core.Bool.{true, false}
+use mathlib.Core.Logic.{inl, inr}
+use Rattle.std.proofs.shelf.Lists.{drop-drop, drop-take, take-take, length-drop, length-take-le}
 use Rattle.std.proofs.shelf.Tests.{cond-true, cond-false, cases-bool}
 use Rattle.std.specs.declared.option.Option.{Option}
 use Rattle.std.specs.declared.option.Option.the-variants.{Some, None}
 use Rattle.merkle.specs.Binding.{Two, collides, firstCollision, orElse}
 use Rattle.merkle.specs.Laws.{FirstInParts}
+use Rattle.merkle.proofs.Bound.{none-some}
 use Rattle.merkle.proofs.Climbing.{inputs-append, inputs-length}
 use Rattle.hash.specs.Digests.{digestLen}
 use Rattle.merkle.specs.Tree.{side, sides}
-use Rattle.merkle.specs.Climb.{Node, Rule, Rung, beside, rungs, slot, slots, climb, inputs, above, input, plainRule, fromNode}
+use Rattle.merkle.specs.Climb.{Rule, Rung, beside, rungs, slot, slots, climb, inputs, above, input, plainRule, fromNode}
 
 -- what is left of a climb of d levels after i of them, at place p
 abbrev pub left : ℕ → ℕ → ℕ → List ℕ → List Rung
@@ -69,14 +70,26 @@ module _ (R : Rule) (f : List ℕ → List ℕ) where
 pub slot-length : (i : ℕ) (xs : List ℕ) → digestLen * i + digestLen ≤ length xs → length (slot i xs) ≡ digestLen
 slot-length i xs h = length-take-le digestLen (drop (digestLen * i) xs) (simp length-drop (omega arith))
 
--- a digest as the code cuts it out
-pub slot-cut : (i : ℕ) (path : List ℕ) → take (digestLen * i + digestLen - digestLen * i) (drop (digestLen * i) path) ≡ slot i path
-slot-cut i path =
-    let n : digestLen * i + digestLen - digestLen * i ≡ digestLen = omega arith in
-    ap (λ k. take k (drop (digestLen * i) path)) n
+-- a digest as code cuts it out, from place a to place e
+pub slot-part : (i a e : ℕ) (xs : List ℕ) → a ≡ digestLen * i → e ≡ a + digestLen → take (e - a) (drop a xs) ≡ slot i xs
+slot-part i a e xs ea ee =
+    let n : e - a ≡ digestLen = omega arith in
+    ap (λ m. take m (drop a xs)) n ∙ ap (λ m. take digestLen (drop m xs)) ea
 
-none-some : (t : Two) → _≡_ {A = Option Two} None (Some t) → ⊥
-none-some t e = let z : _≡_ {A = ℕ} 0 1 = cc in omega arith
+pub slot-cut : (i : ℕ) (xs : List ℕ) → take (digestLen * i + digestLen - digestLen * i) (drop (digestLen * i) xs) ≡ slot i xs
+slot-cut i xs = slot-part i (digestLen * i) (digestLen * i + digestLen) xs refl refl
+
+-- the first k digests of a front that has them
+pub slots-take : (k n : ℕ) (xs : List ℕ) → digestLen * k ≤ n → slots k (take n xs) ≡ slots k xs
+unfolding slots
+slots-take zero n xs h = refl
+slots-take (suc k) n xs h =
+    let m = n - digestLen in
+    let e : n ≡ digestLen + m = omega arith in
+    ap (λ z. z ∷ slots k (drop digestLen (take n xs))) (take-take digestLen n xs (omega arith))
+    ∙ ap (λ z. take digestLen xs ∷ slots k (drop digestLen (take z xs))) e
+    ∙ ap (λ z. take digestLen xs ∷ slots k z) (drop-take digestLen m xs)
+    ∙ ap (λ z. take digestLen xs ∷ z) (slots-take k m (drop digestLen xs) (omega arith))
 
 -- the search for a collision, level by level
 module _ (R : Rule) (f : List ℕ → List ℕ) where

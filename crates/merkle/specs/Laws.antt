@@ -1,12 +1,12 @@
 -- The laws of trees, climbs and layouts, under a hash f.
 use mathlib.Core.Path.{_≡_}
-use mathlib.Core.List.{List, [], _∷_, _++_}
+use mathlib.Core.List.{List, _++_}
 use Prim.Native.Nat.{ℕ, _+_, _-_, _*_, _^_, _<_, _≤_}
 use lib.ListN.{length, take}
 use Rattle.std.specs.declared.option.Option.the-variants.{Some}
 use Rattle.hash.specs.Digests.{digestLen}
 use Rattle.merkle.specs.Tree.{Side, node, root, path, sides}
-use Rattle.merkle.specs.Climb.{Node, Rule, Rung, plainRule, joinOf, rungs, climb, inputs, slot, slots, fromNode, throughTwo}
+use Rattle.merkle.specs.Climb.{Node, Rule, Rung, plainRule, leafOf, joinOf, rungs, climb, inputs, slot, slots, throughTwo, climbNode}
 use Rattle.merkle.specs.Binding.{Two, AtFirst, Shows, firstCollision, found, orElse, Digest}
 use Rattle.merkle.specs.Layout.{treeLayout, treeLen, levelStart, rootOf, pathOf}
 
@@ -52,14 +52,24 @@ pub record LaysOut (f : List ℕ → List ℕ) (d : ℕ) (leaf : ℕ → Node) :
   pub long : length (treeLayout (joinOf plainRule f) d leaf) ≡ treeLen d
   pub entry : (h i : ℕ) → h ≤ d → i < 2 ^ (d - h) → slot (levelStart d h + i) (treeLayout (joinOf plainRule f) d leaf) ≡ node (joinOf plainRule f) leaf h i
   pub last : rootOf d (treeLayout (joinOf plainRule f) d leaf) ≡ root (joinOf plainRule f) d leaf
+  pub path-long : (p : ℕ) → p < 2 ^ d → length (pathOf d p (treeLayout (joinOf plainRule f) d leaf)) ≡ digestLen * d
   pub paths : (p : ℕ) → p < 2 ^ d → slots d (pathOf d p (treeLayout (joinOf plainRule f) d leaf)) ≡ path (joinOf plainRule f) d leaf p
-  pub climbs : (p : ℕ) → p < 2 ^ d → climb plainRule f (fromNode d p (pathOf d p (treeLayout (joinOf plainRule f) d leaf))) (leaf p) ≡ root (joinOf plainRule f) d leaf
+  pub climbs : (p : ℕ) → p < 2 ^ d → climbNode f p (pathOf d p (treeLayout (joinOf plainRule f) d leaf)) (leaf p) ≡ root (joinOf plainRule f) d leaf
 
 abbrev pub LayoutsStand : (List ℕ → List ℕ) → Type 0
 LayoutsStand f = (d : ℕ) (leaf : ℕ → Node) → ((i : ℕ) → i < 2 ^ d → Digest (leaf i)) → LaysOut f d leaf
 
--- a tree laid out over the digests in front of some bytes leaves that front as it is
-abbrev pub FrontStays : (List ℕ → List ℕ) → Type 0
-FrontStays f =
+-- and so over the digests in front of some bytes, and that front is the layout's
+abbrev pub FrontStands : (List ℕ → List ℕ) → Type 0
+FrontStands f =
     (d : ℕ) (xs : List ℕ) → digestLen * 2 ^ d ≤ length xs
-    → take (digestLen * 2 ^ d) (treeLayout (joinOf plainRule f) d (λ i. slot i xs)) ≡ take (digestLen * 2 ^ d) xs
+    → LaysOut f d (λ i. slot i xs) × (take (digestLen * 2 ^ d) (treeLayout (joinOf plainRule f) d (λ i. slot i xs)) ≡ take (digestLen * 2 ^ d) xs)
+
+-- Two trees, the root of the first being the value of leaf q of the second: the path of leaf p of the first and that of q in the second,
+-- cut from their layouts and joined, lead from the value of p to the second one's root.
+abbrev pub ClimbsBoth : (List ℕ → List ℕ) → Type 0
+ClimbsBoth f =
+    (d p e q : ℕ) (leaf next : ℕ → Node) (v : List ℕ) → p < 2 ^ d → q < 2 ^ e
+    → ((i : ℕ) → i < 2 ^ d → Digest (leaf i)) → ((i : ℕ) → i < 2 ^ e → Digest (next i))
+    → leaf p ≡ leafOf plainRule f v → next q ≡ leafOf plainRule f (root (joinOf plainRule f) d leaf)
+    → climb plainRule f (throughTwo d p e q (pathOf d p (treeLayout (joinOf plainRule f) d leaf) ++ pathOf e q (treeLayout (joinOf plainRule f) e next))) v ≡ root (joinOf plainRule f) e next

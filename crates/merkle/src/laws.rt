@@ -2,7 +2,7 @@
 use hash::digest::Hash;
 ghost use Rattle.merkle.specs.Binding.{Any, Binds, Digest, NodesBind};
 ghost use Rattle.merkle.specs.Climb.{plainRule};
-ghost use Rattle.merkle.specs.Laws.{ClimbsOwn, FirstInParts, FirstIs, FrontStays, LayoutsStand, Lengths, Parts, TwoBind};
+ghost use Rattle.merkle.specs.Laws.{ClimbsBoth, ClimbsOwn, FirstInParts, FirstIs, FrontStands, LayoutsStand, Lengths, Parts, TwoBind};
 
 // A tree's own path leads to its root, and climbs can be taken in parts.
 pub fn trees_climb<H: Hash>() -> u8
@@ -27,7 +27,8 @@ pub fn climbs_bind<H: Hash>() -> u8
 // Whole trees, laid out level by level.
 pub fn layouts_stand<H: Hash>() -> u8
     ensures stand { λ _. ⌜ LayoutsStand (H·Hash .meaning) ⌝ }
-    ensures front { λ _. ⌜ FrontStays (H·Hash .meaning) ⌝ }
+    ensures front { λ _. ⌜ FrontStands (H·Hash .meaning) ⌝ }
+    ensures both { λ _. ⌜ ClimbsBoth (H·Hash .meaning) ⌝ }
 {
     0
 }

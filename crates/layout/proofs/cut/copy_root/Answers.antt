@@ -1,10 +1,8 @@
 use mathlib.Core.Path.{_≡_, sym, ap, _∙_}
-use Prim.Native.Nat.{_+_, _-_, _*_, _^_, _≤_}
+use Prim.Native.Nat.{_-_, _*_, _^_, _≤_}
 use native.Mathlib.Omega.{arith}
-use lib.ListN.{length}
 use lib.Pow.{pow-mono}
 use Rattle.std.proofs.shelf.Tests.{cond-true, le-leb}
-use Rattle.hash.specs.Digests.{digestLen}
 use Rattle.merkle.specs.Climb.{slot}
 use Rattle.merkle.proofs.Steps.{slot-length}
 use Rattle.layout.specs.Answers.{depthLimit, leafCount}

@@ -1,7 +1,8 @@
-use Rattle.merkle.proofs.Layouts.{layouts-stand, front-stays}
+use Rattle.merkle.proofs.Layouts.{layouts-stand, front-stands, climbs-both}
 use Rattle.merkle.proofs.laws.layouts_stand.Needs as need
 
 pub returns : need.returns
 returns g c =
     let f = g .H·Hash .meaning in
-    record { stand = layouts-stand f (g .H·Hash·met .sized); front = front-stays f }
+    let sized = g .H·Hash·met .sized in
+    record { stand = layouts-stand f sized; front = front-stands f sized; both = climbs-both f sized }

@@ -1,0 +1,4 @@
+mod Fits
+mod Joined
+mod Levels
+pub mod Found
