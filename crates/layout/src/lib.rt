@@ -1,4 +1,4 @@
 // Whole trees laid out in a buffer, leaf digests first and root last, over any hash.
 pub mod cut;
 pub mod grow;
-mod size;
+pub mod size;

@@ -4,10 +4,10 @@ ghost use Rattle.layout.specs.Answers.{isTree, leafCount};
 ghost use mathlib.Core.Path.{_≡_};
 
 // The most levels that a tree here has above its leaves.
-const DEPTH_LIMIT: usize = 16;
+pub const DEPTH_LIMIT: usize = 16;
 
 // The leaves of a tree of this depth; none where it is too deep.
-pub(crate) fn leaves(depth: usize) -> usize
+pub fn leaves(depth: usize) -> usize
     ensures { λ r. ⌜ r ≡ leafCount depth ⌝ }
 {
     if depth > DEPTH_LIMIT {
@@ -17,7 +17,7 @@ pub(crate) fn leaves(depth: usize) -> usize
 }
 
 // Whether `len` bytes are those of a tree of this depth.
-pub(crate) fn is_tree(depth: usize, len: usize) -> bool
+pub fn is_tree(depth: usize, len: usize) -> bool
     ensures { λ r. ⌜ r ≡ isTree depth len ⌝ }
 {
     depth <= DEPTH_LIMIT && len == DIGEST_LEN * (2 * leaves(depth) - 1)
