@@ -1,5 +1,6 @@
 -- The evidence that a square and its roots give for a cell.
-use mathlib.Core.Bool.{Bool, cond, not, _&&_}
+use mathlib.Core.Path.{_≡_}
+use mathlib.Core.Bool.{Bool, true, cond, not, _&&_}
 use mathlib.Core.List.{List, _++_}
 use Prim.Native.Nat.{ℕ, _+_}
 use lib.Dec.{eqb}
@@ -15,7 +16,8 @@ use Rattle.header.specs.Fields.{Fields}
 use Rattle.header.specs.Lines.{lineOf, placeOn}
 use Rattle.header.specs.Sizes.{depth, squareLen, rootsLen, pathLen, hasCell, cellNumber, lineNumber}
 use Rattle.commitment.specs.Values.{valueTree}
-use Rattle.commitment.specs.Roots.{lineTree}
+use Rattle.commitment.specs.Roots.{lineTree, rootsOf, dataRootOf}
+use Rattle.evidence.specs.Evidence.{verifies}
 
 -- the share of cell (r, c)
 abbrev pub cellShare : Fields → List ℕ → ℕ → ℕ → List ℕ
@@ -37,3 +39,8 @@ blockFits h n m p = eqb n (squareLen h) && (eqb m (rootsLen h) && eqb p (pathLen
 abbrev pub evidenceOutcome : ℕ → Fields → ℕ → ℕ → ℕ → ℕ → ℕ → Result (Unit {0}) Refused
 evidenceOutcome kind h r c n m p =
     cond (not (eqb (h .hashKind) kind)) (Err (plain 13)) (cond (not (hasCell h r c)) (Err (plain 15)) (cond (not (blockFits h n m p)) (Err (plain 3)) (Ok tt)))
+
+-- of a square's own roots, and under the header that they commit to, the path that was written verifies with the cell's share
+abbrev pub Proves : (List ℕ → List ℕ) → Fields → List ℕ → List ℕ → Axis → ℕ → ℕ → List ℕ → Type 0
+Proves f h sq roots axis r c path =
+    roots ≡ rootsOf f h sq → h .dataRoot ≡ dataRootOf f h roots → verifies f h r c axis (cellShare h sq r c) path ≡ true

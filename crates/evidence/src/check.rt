@@ -20,7 +20,7 @@ use header::header::Header;
 use header::refusal::SquareRefusal;
 
 // The number of the cell's line along an axis, which is its leaf in the data tree.
-fn line_number(axis: Axis, width: usize, cell: Cell) -> usize
+pub(crate) fn line_number(axis: Axis, width: usize, cell: Cell) -> usize
     requires { ⌜ width ≤ 64 ⌝ }
     ensures { λ r. ⌜ r ≡ lineNumberIn width axis (lineOf axis (cell .row) (cell .col)) ⌝ }
 {

@@ -3,6 +3,8 @@ use mathlib.Core.Path.{_≡_, refl, sym, ap, _∙_, subst}
 use mathlib.Core.Bool.{Bool, true, _||_}
 use mathlib.Core.Logic.{_⊎_, inl, inr}
 use Prim.Native.Nat.{ℕ, _+_, _-_, _*_, _^_, _<_, _≤_}
+use native.Mathlib.Nat.{pow-suc}
+use native.Mathlib.Numerals.{add-one}
 use native.Mathlib.Omega.{arith}
 use Rattle.std.proofs.shelf.Bits.{mul-le}
 use Rattle.std.proofs.shelf.Tests.{or-cases, eqb-true}
@@ -54,6 +56,7 @@ pub record Measured (m : Lengths) : Type 0 where
   pub some : 2 ≤ m .width
   pub deep : m .depth ≤ 6
   pub power : m .width ≡ 2 ^ m .depth
+  pub above : 2 ^ (m .depth + 1) ≡ 2 * m .width
   pub sized : m .share ≤ 512
   pub held : 1 ≤ m .share
   pub cells : m .cells ≡ m .width * m .width
@@ -63,6 +66,7 @@ pub record Measured (m : Lengths) : Type 0 where
   pub roots : m .roots ≡ digestLen * (2 * m .width)
   pub axisTree : m .«axis_tree» ≡ digestLen * (2 * m .width - 1)
   pub dataTree : m .«data_tree» ≡ digestLen * (2 * (2 * m .width) - 1)
+  pub axisPath : m .«axis_path» ≡ digestLen * m .depth
   pub path : m .path ≡ digestLen * (2 * m .depth + 1)
 
 pub measured : (h : Fields) (m : Lengths) → okWidth (h .k) ≡ true → okSize (h .s) ≡ true → m ≡ lengthsOf h → Measured m
@@ -70,11 +74,14 @@ measured h m w z e =
     let width-is : m .width ≡ 2 * h .k = ap (λ l. l .width) e in
     let depth-is : m .depth ≡ depthOf (h .k) = ap (λ l. l .depth) e in
     let share-is : m .share ≡ h .s = ap (λ l. l .share) e in
+    let power-is : m .width ≡ 2 ^ m .depth = width-is ∙ sym (depth-power (h .k) w) ∙ ap (λ i. 2 ^ i) (sym depth-is) in
+    let twice : 2 ^ (m .depth + 1) ≡ 2 ^ m .depth * 2 = ap (λ i. 2 ^ i) (add-one (m .depth)) ∙ pow-suc 2 (m .depth) in
     record {
       wide = omega (arith, width-most (h .k) w);
       some = omega (arith, width-some (h .k) w);
       deep = omega (arith, depth-most (h .k));
-      power = width-is ∙ sym (depth-power (h .k) w) ∙ ap (λ i. 2 ^ i) (sym depth-is);
+      power = power-is;
+      above = omega arith;
       sized = omega (arith, size-most (h .s) z);
       held = omega (arith, size-some (h .s) z);
       cells = ap (λ l. l .cells) e ∙ sym (ap (λ l. l .width * l .width) e);
@@ -84,5 +91,6 @@ measured h m w z e =
       roots = omega (arith, ap (λ l. l .roots) e);
       axisTree = omega (arith, ap (λ l. l .«axis_tree») e);
       dataTree = omega (arith, ap (λ l. l .«data_tree») e);
+      axisPath = omega (arith, ap (λ l. l .«axis_path») e);
       path = omega (arith, ap (λ l. l .path) e);
     }
