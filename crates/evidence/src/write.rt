@@ -12,6 +12,7 @@ ghost use Rattle.header.specs.Lines.{lineOf, placeOn};
 ghost use Rattle.header.specs.Refusals.{told};
 ghost use Rattle.header.specs.Sizes.{axisTreeLen, depth, lineCount, pathLen, rootsLen, squareLen, width};
 ghost use Rattle.merkle.specs.Layout.{pathOf, treeLen};
+ghost use Rattle.std.specs.declared.result.Result.the-variants.{Ok};
 ghost use lib.ListN.{length};
 ghost use mathlib.Core.Bool.{true};
 ghost use mathlib.Core.List.{_++_};
@@ -98,6 +99,7 @@ pub fn evidence_of<H: Hash>(
 ) -> Result<(), SquareRefusal>
     ensures answer { λ r. ⌜ outcome told r ≡ evidenceOutcome kind (fieldsOf (now (h .entry))) (cell .row) (cell .col) (length (now (square .entry))) (length (now (roots .entry))) (length (now (path .entry))) ⌝ }
     ensures written { λ _. ⌜ now (path .exit) ≡ written (evidenceOutcome kind (fieldsOf (now (h .entry))) (cell .row) (cell .col) (length (now (square .entry))) (length (now (roots .entry))) (length (now (path .entry)))) (evidencePath meaning (fieldsOf (now (h .entry))) (now (square .entry)) (now (roots .entry)) axis (cell .row) (cell .col)) (now (path .entry)) ⌝ }
+    ensures proves { λ _. ⌜ (evidenceOutcome kind (fieldsOf (now (h .entry))) (cell .row) (cell .col) (length (now (square .entry))) (length (now (roots .entry))) (length (now (path .entry))) ≡ Ok tt → Proves meaning (fieldsOf (now (h .entry))) (now (square .entry)) (now (roots .entry)) axis (cell .row) (cell .col) (now (path .exit))) ⌝ }
 {
     if h.hash_kind != H::kind_byte() {
         return Err(SquareRefusal::OtherHash);

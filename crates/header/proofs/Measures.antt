@@ -44,6 +44,12 @@ pub depth-power : (k : ℕ) → okWidth k ≡ true → 2 ^ depthOf k ≡ 2 * k
 unfolding depthOf
 depth-power k w = width-cases k w (λ k. 2 ^ depthOf k ≡ 2 * k) refl refl refl refl refl refl
 
+-- the data tree has twice as many
+pub depth-above : (k : ℕ) → okWidth k ≡ true → 2 ^ (depthOf k + 1) ≡ 2 * (2 * k)
+depth-above k w =
+    let twice : 2 ^ (depthOf k + 1) ≡ 2 ^ depthOf k * 2 = ap (λ i. 2 ^ i) (add-one (depthOf k)) ∙ pow-suc 2 (depthOf k) in
+    omega (arith, depth-power k w)
+
 pub cells-most : (h : Fields) → okWidth (h .k) ≡ true → cellCount h ≤ 4096
 cells-most h w = let m = width-most (h .k) w in mul-le (width h) (width h) 64 64 (omega arith) (omega arith)
 
