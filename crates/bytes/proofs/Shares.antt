@@ -1,13 +1,15 @@
 -- Shares of a buffer, read, compared and written.
 use mathlib.Core.Path.{_≡_, sym, ap, _∙_, subst}
 use mathlib.Core.List.{List, _++_}
+use mathlib.Core.Logic.{⊎-elim}
 use Prim.Native.Nat.{ℕ, zero, suc, _+_, _-_, _*_, _/_, _%_, _<_, _≤_}
 use native.Mathlib.Nat.{suc-mul, mul-le-mul-right, mul-zero, div-add-mod', mod-lt, div-lt-iff-lt-mul, zero-lt-suc, zero-add, not-suc-le-zero}
 use native.Mathlib.Omega.{arith}
 use native.Mathlib.Decide.{ℕ-discrete}
 use lib.ListN.{length, take, drop, getD, length-take, length-drop}
 use borrow.Rule.Slice.PartMut.{putMid, postOf}
-use Rattle.std.proofs.shelf.Lists.{ext-getD, getD-take, getD-drop, getD-append-left, getD-append-right, length-take-le}
+use Rattle.std.proofs.shelf.Lists.{ext-getD, getD-take, getD-drop, getD-append-left, getD-append-right, getD-past, length-take-le}
+use Rattle.std.proofs.shelf.Tests.{cases-lt}
 use Rattle.std.specs.Iters.{counting}
 use Rattle.std.proofs.shelf.Bits.{div-mul-add, mod-mul-add}
 use Rattle.std.proofs.shelf.Counted.{length-map-counting, getD-map-counting}
@@ -73,6 +75,18 @@ pub buffer-from-bytes : (n s : ℕ) (f : ℕ → ℕ → ℕ) (xs : List ℕ) �
     → ((i : ℕ) → i < n → (b : ℕ) → b < s → byteOf s i b xs ≡ f i b) → xs ≡ buffer n s f
 buffer-from-bytes n s f xs long h =
     same-from-bytes n s xs (buffer n s f) long (buffer-length n s f) (λ i hi b hb. h i hi b hb ∙ sym (buffer-byte n s f i b hi hb))
+
+-- a bound on all its bytes, and so on what stands past its end
+pub buffer-below : (n s l : ℕ) (f : ℕ → ℕ → ℕ) → 0 < l → ((i b : ℕ) → f i b < l) → (m : ℕ) → getD (buffer n s f) m 0 < l
+unfolding buffer
+buffer-below n s l f some h m = ⊎-elim inside past (cases-lt m (n * s))
+  where
+    inside : m < n * s → getD (buffer n s f) m 0 < l
+    inside lt =
+        subst (λ (x : ℕ). x < l) (sym (getD-map-counting (λ m. f (m / s) (m % s)) 0 (n * s) m m 0 lt (zero-add m))) (h (m / s) (m % s))
+
+    past : n * s ≤ m → getD (buffer n s f) m 0 < l
+    past le = subst (λ (x : ℕ). x < l) (sym (getD-past (buffer n s f) m 0 (subst (λ (x : ℕ). x ≤ m) (sym (buffer-length n s f)) le))) some
 
 -- the first k shares
 pub byte-take : (k s i b : ℕ) (xs : List ℕ) → i < k → b < s → byteOf s i b (take (k * s) xs) ≡ byteOf s i b xs

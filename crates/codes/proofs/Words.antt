@@ -9,7 +9,7 @@ use lib.Bits.{bitXor, xor-lt}
 use lib.ListN.{length, getD, take}
 use Rattle.std.proofs.shelf.Lists.{length-take-le}
 use Rattle.bytes.specs.Shares.{share, byteOf}
-use Rattle.bytes.proofs.Shares.{bytes-from-share, same-from-bytes, buffer-length, buffer-byte, buffer-from-bytes, byte-take}
+use Rattle.bytes.proofs.Shares.{bytes-from-share, same-from-bytes, buffer-length, buffer-byte, buffer-from-bytes, buffer-below, byte-take}
 use Rattle.galois.specs.Field.{mul}
 use Rattle.galois.proofs.Steps.{mul-byte, mul-low-r}
 use Rattle.codes.specs.Over.{over}
@@ -68,7 +68,16 @@ codeword-same T k s xs ys h =
     codeword-from-bytes T k s ys (codeword T k s xs) (codeword-length T k s xs)
     (λ i hi b hb. codeword-byte T k s i b xs hi hb ∙ applied-data k (T k i) (λ j. byteOf s j b xs) (λ j. byteOf s j b ys) (λ j hj. h j hj b hb))
 
+-- it consists of bytes
+pub codeword-small : (T : Table) (k s : ℕ) (xs : List ℕ) (n : ℕ) → getD (codeword T k s xs) n 0 < 256
+unfolding codeword
+codeword-small T k s xs n =
+    buffer-below (2 * k) s 256 (λ i b. symbol T k (λ j. byteOf s j b xs) i) (lit< tt) (λ i b. applied-byte k (T k i) (λ j. byteOf s j b xs)) n
+
 -- ---- words
+
+pub word-small : (T : Table) (k s : ℕ) (ws : List ℕ) → IsWord T k s ws → (n : ℕ) → getD ws n 0 < 256
+word-small T k s ws w n = subst (λ zs. getD zs n 0 < 256) (sym (w .own)) (codeword-small T k s (take (k * s) ws) n)
 
 pub word-byte : (T : Table) (k s : ℕ) (ws : List ℕ) → IsWord T k s ws → (i b : ℕ) → i < 2 * k → b < s
     → byteOf s i b ws ≡ symbol T k (λ j. byteOf s j b ws) i
