@@ -18,10 +18,9 @@ use Rattle.bytes.specs.Shares.{share, byteOf}
 use Rattle.bytes.proofs.Shares.{share-from-bytes, bytes-from-share, byte-take}
 use Rattle.codes.specs.Code.{Table, Weight, Places, FirstLaw, SecondLaw, WeightLaw, Meets, applied}
 use Rattle.codes.specs.Words.{at, codeword, Through}
-use Rattle.codes.proofs.Words.{applied-row, applied-data, codeword-same, codeword-word, word-from-bytes, through-only}
+use Rattle.codes.proofs.Words.{applied-data, codeword-same, codeword-word, word-from-bytes, through-only}
 use Rattle.erasure.specs.Limits.{okWidth, okSize}
 use Rattle.erasure.specs.Places.{risingFrom, risingBelow}
-use Rattle.erasure.specs.Weights.{Own}
 use Rattle.erasure.specs.Calls.{fitting, encodeOutcome, recoverOutcome, GivesBack, NoOther}
 
 -- ---- the word
@@ -43,15 +42,6 @@ through-from-weights T W law k s hk ps xs out pl lx lo small h =
   where
     meets : (b : ℕ) → Meets T k (at ps) (λ j. byteOf s j b xs) (λ i. applied k (W k (at ps) i) (λ j. byteOf s j b xs))
     meets b = law k hk (at ps) (λ j. byteOf s j b xs) pl (λ j hj. small (j * s + b))
-
--- the row of a given place gives the share that is given
-pub own-from-weights : (T : Table) (W : Weight) → WeightLaw T W → (s : ℕ) (ps xs rows : List ℕ) → length ps ≤ 128 → Places (length ps) (at ps)
-    → ((n : ℕ) → getD xs n 0 < 256)
-    → ((i j : ℕ) → i < 2 * length ps → j < length ps → byteOf (length ps) i j rows ≡ W (length ps) (at ps) i j) → Own ps rows s xs
-own-from-weights T W law s ps xs rows hk pl small h j hj b hb =
-    applied-row (length ps) (λ m. byteOf (length ps) (at ps j) m rows) (W (length ps) (at ps) (at ps j)) (λ m. byteOf s m b xs)
-    (λ m hm. h (at ps j) m (pl .below j hj) hm)
-    ∙ law (length ps) hk (at ps) (λ m. byteOf s m b xs) pl (λ m hm. small (m * s + b)) .given j hj
 
 -- the codeword through the data at the first k places is that of the data
 pub through-first : (T : Table) (k s : ℕ) (ps xs out : List ℕ) → ((j : ℕ) → j < k → at ps j ≡ j) → Through T k s ps xs out → out ≡ codeword T k s xs

@@ -1,15 +1,14 @@
 -- The weights of a recovery, in a table: for k places, 2k rows of k.
-use mathlib.Core.Path.{_≡_}
 use mathlib.Core.Bool.{Bool, _&&_, cond}
 use mathlib.Core.List.{List}
-use Prim.Native.Nat.{ℕ, _*_, _<_}
+use Prim.Native.Nat.{ℕ, _*_}
 use lib.Bits.{bitXor}
 use lib.Dec.{eqb}
 use lib.ListN.{length}
-use Rattle.bytes.specs.Shares.{byteOf, buffer}
+use Rattle.bytes.specs.Shares.{buffer}
 use Rattle.galois.specs.Field.{mul, inv}
 use Rattle.codes.specs.Over.{over, except}
-use Rattle.codes.specs.Code.{Weight, applied}
+use Rattle.codes.specs.Code.{Weight}
 use Rattle.codes.specs.Words.{at}
 use Rattle.erasure.specs.Limits.{okWidth}
 use Rattle.erasure.specs.Places.{risingBelow}
@@ -39,9 +38,3 @@ denominator k p j = over mul 1 k (except 1 j (λ m. inv (bitXor (p j) (p m))))
 -- from both factors, the weight of the share at place q in symbol i: at its own place it is 1
 abbrev pub weightBy : ℕ → ℕ → ℕ → ℕ → ℕ
 weightBy ofSymbol ofShare i q = cond (eqb q i) 1 (mul (mul ofSymbol (inv (bitXor i q))) ofShare)
-
--- by these rows, the share of each place is the one that is given there
-abbrev pub Own : List ℕ → List ℕ → ℕ → List ℕ → Type 0
-Own ps rows s xs =
-    (j : ℕ) → j < length ps → (b : ℕ) → b < s
-    → applied (length ps) (λ m. byteOf (length ps) (at ps j) m rows) (λ m. byteOf s m b xs) ≡ byteOf s j b xs

@@ -46,7 +46,7 @@ fn fill_word<C: Code>(places: &[u16], s: usize, shares: &[u8], out: &mut [u8])
     let mut space = [0u8; 2048];
     let rows = &mut space[0..2 * k * k];
     C::weights(places, rows);
-    apply_rows(places, rows, s, shares, out);
+    apply_rows(rows, k, s, shares, out);
 }
 
 // Encodes k shares of s bytes: out becomes their codeword.

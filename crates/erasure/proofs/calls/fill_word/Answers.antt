@@ -1,4 +1,3 @@
-use mathlib.Core.Bool.{true}
 use mathlib.Core.List.{List}
 use mathlib.Core.Path.{_≡_, refl, ap, _∙_}
 use Prim.Native.Nat.{ℕ, _-_, _*_, _<_, _≤_}
@@ -9,13 +8,11 @@ use Rattle.bytes.specs.Shares.{byteOf}
 use Rattle.codes.specs.Code.{Weight}
 use Rattle.codes.specs.Words.{at}
 use Rattle.codes.proofs.Words.{applied-row}
-use Rattle.erasure.specs.Limits.{okWidth}
-use Rattle.erasure.specs.Places.{risingBelow}
 use Rattle.erasure.specs.Weights.{weighed}
 use Rattle.erasure.proofs.Bounds.{width-most}
 use Rattle.erasure.proofs.Rises.{rising-places}
 use Rattle.erasure.proofs.Tables.{weighable-from, weighed-at}
-use Rattle.erasure.proofs.Recovers.{own-from-weights, through-from-weights}
+use Rattle.erasure.proofs.Recovers.{through-from-weights}
 use Rattle.erasure.proofs.calls.fill_word.Needs as need
 
 -- the table fits the space
@@ -34,25 +31,11 @@ mul-rows-2 g c =
 pub part-space-end : need.part-space-end
 part-space-end g c = room (length (c .args .places .now)) (width-most (length (c .args .places .now)) (c .pre .0))
 
--- the weights stand in the table
-table-at : (W : Weight) (ps rows : List ℕ) → okWidth (length ps) ≡ true → risingBelow (2 * length ps) ps ≡ true
-    → rows ≡ weighed W ps (take (2 * length ps * length ps - 0) (drop 0 (replicate {A = ℕ} 2048 0)))
-    → (i j : ℕ) → i < 2 * length ps → j < length ps → byteOf (length ps) i j rows ≡ W (length ps) (at ps) i j
-table-at W ps rows w r e i j hi hj =
-    let k : ℕ = length ps in
-    let old : List ℕ = take (2 * k * k - 0) (drop 0 (replicate {A = ℕ} 2048 0)) in
-    ap (byteOf k i j) e ∙ weighed-at W ps old (weighable-from ps (length old) w r (part-long (2 * k * k) (room k (width-most k w)))) i j hi hj
-
 pub apply-rows-requires : need.apply-rows-requires
 apply-rows-requires g c κs =
-    let ps : List ℕ = c .args .places .now in
-    let k : ℕ = length ps in
+    let k : ℕ = length (c .args .places .now) in
     let l : k ≤ 32 = width-most k (c .pre .0) in
-    let W : Weight = g .C·Code .weight in (
-      (omega arith, (c .pre .1 .1 .0, (c .weights .kept .rows ∙ part-long (2 * k * k) (room k l), (c .pre .1 .1 .1 .0, c .pre .1 .1 .1 .1)))),
-      own-from-weights (g .C·Code .table) W (g .C·Code·met .weighs) (c .args .s) ps (c .args .shares .now) (c .weights .last .rows) (omega arith)
-          (rising-places k ps refl (c .pre .1 .0)) (λ n. c .typed .shares n .fits) (table-at W ps (c .weights .last .rows) (c .pre .0) (c .pre .1 .0) (c .weights .ensures)),
-    )
+    (omega arith, (c .pre .1 .1 .0, (c .weights .kept .rows ∙ part-long (2 * k * k) (room k l), (c .pre .1 .1 .1 .0, c .pre .1 .1 .1 .1))))
 
 pub returns : need.returns
 returns g c =
@@ -61,9 +44,11 @@ returns g c =
     let s : ℕ = c .args .s in
     let l : k ≤ 32 = width-most k (c .pre .0) in
     let W : Weight = g .C·Code .weight in
+    let old : List ℕ = take (2 * k * k - 0) (drop 0 (replicate {A = ℕ} 2048 0)) in
     through-from-weights (g .C·Code .table) W (g .C·Code·met .weighs) k s (omega arith) ps (c .args .shares .now) (c .apply-rows .last .out)
     (rising-places k ps refl (c .pre .1 .0)) (c .pre .1 .1 .1 .0) (c .apply-rows .kept .out ∙ c .pre .1 .1 .1 .1)
     (λ n. c .typed .shares n .fits)
     (λ i hi b hb. c .apply-rows .ensures i hi b hb
     ∙ applied-row k (λ j. byteOf k i j (c .weights .last .rows)) (W k (at ps) i) (λ j. byteOf s j b (c .args .shares .now))
-    (λ j hj. table-at W ps (c .weights .last .rows) (c .pre .0) (c .pre .1 .0) (c .weights .ensures) i j hi hj))
+    (λ j hj. ap (byteOf k i j) (c .weights .ensures)
+    ∙ weighed-at W ps old (weighable-from ps (length old) (c .pre .0) (c .pre .1 .0) (part-long (2 * k * k) (room k l))) i j hi hj))
