@@ -18,6 +18,10 @@ use Rattle.erasure.specs.Places.{risingBelow}
 abbrev pub fitting : ℕ → ℕ → ℕ → ℕ → Bool
 fitting k s n m = eqb n (k * s) && eqb m (2 * k * s)
 
+-- k is allowed, and buffers of n and m bytes hold k shares each, of whatever size
+unfoldable pub parityFits : ℕ → ℕ → ℕ → ℕ → Bool
+parityFits k size n m = okWidth k && (eqb n (k * size) && eqb m (k * size))
+
 -- from k, s and the lengths of the data and of the target
 unfoldable pub encodeOutcome : ℕ → ℕ → ℕ → ℕ → Result (Unit {0}) Refused
 encodeOutcome k s n m =
