@@ -65,10 +65,11 @@ fn holds(k: usize, size: usize, n: usize) -> bool
 fn parity_fits(k: usize, size: usize, n: usize, m: usize) -> bool
     ensures { λ r. ⌜ r ≡ parityFits k size n m ⌝ }
 {
-    if !ok_width(k) {
-        return false;
+    if ok_width(k) {
+        holds(k, size, n) && holds(k, size, m)
+    } else {
+        false
     }
-    holds(k, size, n) && holds(k, size, m)
 }
 
 // Writes the shares behind the data; the places are the first k.

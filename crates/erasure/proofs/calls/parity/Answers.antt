@@ -12,14 +12,6 @@ use Rattle.erasure.proofs.Bounds.{width-most}
 use Rattle.erasure.proofs.Parity.{ParityFits, parity-parts, rest-from-bytes}
 use Rattle.erasure.proofs.calls.parity.Needs as need
 
-pub returns-then-not-parity-fits : need.returns-then-not-parity-fits
-returns-then-not-parity-fits g c =
-    let e = c .if-not-parity-fits .ensures tt in
-    record {
-      answer = e;
-      rest = ap (λ t. cond t (drop (c .args .k * c .args .size) (codeword (g .C·Code .table) (c .args .k) (c .args .size) (c .args .shares .now))) (c .args .out .now)) e;
-    }
-
 part-long : (k : ℕ) → k ≤ 32 → length (take (k - 0) (replicate {A = ℕ} 32 0)) ≡ k
 part-long k h = simp length-take (omega arith)
 
