@@ -5,14 +5,19 @@ use Prim.Native.Nat.{ℕ, zero, suc, _+_, _-_, _*_, _/_, _%_, _<_, _≤_}
 use native.Mathlib.Nat.{add-mul, mul-assoc, add-assoc, mul-zero, mod-lt, div-add-mod', div-lt-iff-lt-mul, zero-lt-suc, not-suc-le-zero}
 use native.Mathlib.Omega.{arith}
 use borrow.Rule.Slice.PartMut.{putMid}
-use lib.ListN.{length, take, drop, getD, length-drop}
+use lib.ListN.{length, take, drop, getD, length-append, length-take, length-drop}
 use Rattle.std.proofs.shelf.Lists.{getD-drop, drop-all, append-nil}
 use Rattle.std.proofs.shelf.Bits.{mul-add-lt}
 use Rattle.bytes.specs.Shares.{share, byteOf}
-use Rattle.bytes.proofs.Shares.{share-inside, share-byte, same-from-bytes}
+use Rattle.bytes.proofs.Shares.{share-inside, share-byte, byte-take, same-from-bytes}
 
 pub both-halves : (k s : ℕ) → 2 * k * s ≡ k * s + k * s
 both-halves k s = ap (λ (n : ℕ). n * s) (let e : 2 * k ≡ k + k = omega arith in e) ∙ add-mul k k s
+
+-- share i of the first k, as `&xs[0..k * s]` reads them
+pub byte-front : (k s i b : ℕ) (xs : List ℕ) → i < k → b < s → byteOf s i b (take (k * s - 0) xs) ≡ byteOf s i b xs
+byte-front k s i b xs hi hb =
+    ap (λ (n : ℕ). byteOf s i b (take n xs)) (let e : k * s - 0 ≡ k * s = omega arith in e) ∙ byte-take k s i b xs hi hb
 
 -- share i behind the first k
 pub byte-drop : (k s i b : ℕ) (xs : List ℕ) → byteOf s i b (drop (k * s) xs) ≡ byteOf s (k + i) b xs
@@ -23,6 +28,10 @@ byte-drop k s i b xs =
 pub put-rest : (n : ℕ) (xs ys : List ℕ) → putMid n (length xs - n) xs ys ≡ take n xs ++ ys
 put-rest n xs ys =
     ap (λ zs. take n xs ++ (ys ++ zs)) (drop-all (length xs - n) (drop n xs) (simp length-drop (omega arith))) ∙ ap (λ zs. take n xs ++ zs) (append-nil ys)
+
+-- and one to a part keeps the length
+pub put-length : (a k : ℕ) (xs ys : List ℕ) → a + k ≤ length xs → length ys ≡ k → length (putMid a k xs ys) ≡ length xs
+put-length a k xs ys h e = simp (length-append, length-take, length-drop) (omega arith)
 
 -- cell c of row r is a share
 pub cell-place : (w s r c b : ℕ) → r * (w * s) + (c * s + b) ≡ (r * w + c) * s + b

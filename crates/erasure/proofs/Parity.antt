@@ -1,25 +1,25 @@
 -- The shares behind the data.
-use mathlib.Core.Path.{_≡_, sym, ap, ap₂, _∙_}
+use mathlib.Core.Path.{_≡_, sym, ap, ap₂, _∙_, subst}
 use mathlib.Core.Bool.{Bool, true, false, _&&_, cond}
 use mathlib.Core.Logic.{_⊎_, inl, inr}
 use mathlib.Core.List.{List, _++_}
 use Prim.Native.Nat.{ℕ, _+_, _-_, _*_, _/_, _%_, _<_, _≤_}
-use native.Mathlib.Nat.{div-add-mod'}
+use native.Mathlib.Nat.{div-add-mod', mod-lt}
 use native.Mathlib.Omega.{arith}
 use borrow.Rule.Slice.PartMut.{putMid}
-use lib.Dec.{eqb}
+use lib.Dec.{eqb, leb, ltb, lit<}
 use lib.ListN.{length, getD, take, drop, length-take, length-drop, length-append}
 use Rattle.std.proofs.shelf.Bits.{div-mul-add}
 use Rattle.std.proofs.shelf.Lists.{take-append-drop, take-at, getD-take}
-use Rattle.std.proofs.shelf.Tests.{and-parts, and-from, eqb-true, eq-eqb, ne-eqb, cases-eq, cond-true}
-use Rattle.bytes.specs.Shares.{byteOf}
-use Rattle.bytes.proofs.Shares.{same-from-bytes}
+use Rattle.std.proofs.shelf.Tests.{and-parts, and-from, eqb-true, eq-eqb, ne-eqb, leb-true, le-leb, lt-ltb, le-ltb, cases-eq, cases-lt, cond-true, cond-false}
+use Rattle.bytes.specs.Shares.{share, byteOf}
+use Rattle.bytes.proofs.Shares.{same-from-bytes, byte-take, share-read, share-length, share-byte}
 use Rattle.bytes.proofs.Cells.{both-halves, byte-drop, cell-below, put-rest}
 use Rattle.codes.specs.Code.{Table, Weight, Places, FirstLaw, WeightLaw, Meets, applied, symbol}
 use Rattle.codes.specs.Words.{at, codeword}
-use Rattle.codes.proofs.Words.{applied-data, codeword-length, codeword-byte, codeword-front}
+use Rattle.codes.proofs.Words.{applied-row, applied-data, applied-low, codeword-length, codeword-from-bytes, codeword-byte, codeword-front}
 use Rattle.erasure.specs.Limits.{okWidth}
-use Rattle.erasure.specs.Calls.{parityFits}
+use Rattle.erasure.specs.Calls.{parityFits, completeFits}
 use Rattle.erasure.proofs.Bounds.{width-most}
 
 -- ---- lengths
@@ -59,6 +59,15 @@ parity-fits k size n m w e f =
 
 -- ---- the shares
 
+-- row i, as a part of the table
+pub row-part : (n k i : ℕ) (rows : List ℕ) (d : ℕ → ℕ) → length rows ≡ n * k → i < n
+    → applied (length (take (i * k + k - i * k) (drop (i * k) rows))) (at (take (i * k + k - i * k) (drop (i * k) rows))) d
+    ≡ applied k (λ j. byteOf k i j rows) d
+row-part n k i rows d long h =
+    ap (λ ws. applied (length ws) (at ws) d) (share-read k i rows)
+    ∙ ap (λ (m : ℕ). applied m (at (share k i rows)) d) (share-length k i n rows long h)
+    ∙ applied-row k (at (share k i rows)) (λ j. byteOf k i j rows) d (λ j hj. share-byte k i j rows hj)
+
 -- the second half of a table of 2k rows, as a part of it
 pub half-long : (k : ℕ) (rows : List ℕ) → length rows ≡ 2 * k * k → length (take (2 * k * k - k * k) (drop (k * k) rows)) ≡ k * k
 half-long k rows long = let e : 2 * k * k ≡ k * k + k * k = both-halves k k in simp (length-take, length-drop) (omega arith)
@@ -71,14 +80,15 @@ half-byte k i j rows hi hj =
 
 -- the weights of the shares at the first k places are the rows of the code
 pub front-weights : (T : Table) (W : Weight) → WeightLaw T W → (k : ℕ) → k ≤ 128 → (p d : ℕ → ℕ) → Places k p → ((j : ℕ) → j < k → p j ≡ j)
-    → ((j : ℕ) → j < k → d j < 256) → (i : ℕ) → i < 2 * k → applied k (W k p i) d ≡ symbol T k d i
-front-weights T W law k hk p d pl first small i hi =
-    sym (meets .coded i hi)
-    ∙ applied-data k (T k i) (λ i. applied k (W k p i) d) d
-    (λ j hj. ap (λ (x : ℕ). applied k (W k p x) d) (sym (first j hj)) ∙ meets .given j hj)
+    → (i : ℕ) → i < 2 * k → applied k (W k p i) d ≡ symbol T k d i
+front-weights T W law k hk p d pl first i hi =
+    sym (applied-low k (W k p i) d) ∙ sym (meets .coded i hi)
+    ∙ applied-data k (T k i) (λ i. applied k (W k p i) (λ j. d j % 256)) (λ j. d j % 256)
+    (λ j hj. ap (λ (x : ℕ). applied k (W k p x) (λ j. d j % 256)) (sym (first j hj)) ∙ meets .given j hj)
+    ∙ applied-low k (T k i) d
   where
-    meets : Meets T k p d (λ i. applied k (W k p i) d)
-    meets = law k hk p d pl small
+    meets : Meets T k p (λ j. d j % 256) (λ i. applied k (W k p i) (λ j. d j % 256))
+    meets = law k hk p (λ j. d j % 256) pl (λ j hj. mod-lt (d j) (lit< tt))
 
 -- what stands behind the first k shares of a codeword
 pub rest-from-bytes : (T : Table) (k s : ℕ) (xs out : List ℕ) → length out ≡ k * s
@@ -116,3 +126,47 @@ encoded T first k s w xs front tail rest long behind small e r =
     (r ∙ cond-true (parityFits k s (length xs) (length (take (length (front ++ tail) - k * s) (drop (k * s) (front ++ tail)))))
     (drop (k * s) (codeword T k s xs)) (take (length (front ++ tail) - k * s) (drop (k * s) (front ++ tail))) fits)
     ∙ codeword-halves T first k s (omega arith) xs long small
+
+-- ---- completion in place
+
+-- what it takes to complete a codeword
+pub record CompleteFits (k size n : ℕ) : Type 0 where
+  pub wide : okWidth k ≡ true
+  pub sized : size ≤ 32768
+  pub long : n ≡ 2 * k * size
+
+pub complete-parts : (k size n : ℕ) → completeFits k size n ≡ true → CompleteFits k size n
+unfolding completeFits
+complete-parts k size n h =
+    let a = and-parts (okWidth k) (leb size 32768 && eqb n (2 * k * size)) h in
+    let b = and-parts (leb size 32768) (eqb n (2 * k * size)) (a .1) in
+    record { wide = a .0; sized = leb-true size 32768 (b .0); long = eqb-true n (2 * k * size) (b .1) }
+
+pub complete-fits : (k size n : ℕ) → okWidth k ≡ true → size ≤ 32768 → n ≡ 2 * k * size → completeFits k size n ≡ true
+unfolding completeFits
+complete-fits k size n w l e =
+    and-from (okWidth k) (leb size 32768 && eqb n (2 * k * size)) w
+    (and-from (leb size 32768) (eqb n (2 * k * size)) (le-leb size 32768 l) (eq-eqb n (2 * k * size) e))
+
+-- the data as they were, and the shares behind them by the rows of the code
+pub completed : (T : Table) → FirstLaw T → (k s : ℕ) → k ≤ 128 → (R : ℕ → ℕ → ℕ) (old new : List ℕ) → length new ≡ 2 * k * s → ((n : ℕ) → getD new n 0 < 256)
+    → ((i : ℕ) → i < 2 * k → (d : ℕ → ℕ) → applied k (R i) d ≡ symbol T k d i)
+    → ((i : ℕ) → i < 2 * k → (b : ℕ) → b < s
+    → byteOf s i b new ≡ cond (ltb i k) (byteOf s i b old) (applied k (R i) (λ j. byteOf s j b old)))
+    → new ≡ codeword T k s (take (k * s) old)
+completed T first k s hk R old new long small rows h =
+    codeword-from-bytes T k s (take (k * s) old) new long
+    (λ i hi b hb.
+    at i hi b hb ∙ sym (applied-data k (T k i) (λ j. byteOf s j b (take (k * s) old)) (λ j. byteOf s j b old) (λ j hj. byte-take k s j b old hj hb)))
+  where
+    at : (i : ℕ) → i < 2 * k → (b : ℕ) → b < s → byteOf s i b new ≡ symbol T k (λ j. byteOf s j b old) i
+    at i hi b hb =
+        elim (cases-lt i k) [
+          | inl l ↦
+              let e : byteOf s i b new ≡ byteOf s i b old =
+              h i hi b hb ∙ cond-true (ltb i k) (byteOf s i b old) (applied k (R i) (λ j. byteOf s j b old)) (lt-ltb i k l) in
+              e ∙ sym (first k hk (λ j. byteOf s j b old) i l (subst (λ (x : ℕ). x < 256) e (small (i * s + b))))
+          | inr l ↦
+              h i hi b hb ∙ cond-false (ltb i k) (byteOf s i b old) (applied k (R i) (λ j. byteOf s j b old)) (le-ltb i k l)
+              ∙ rows i hi (λ j. byteOf s j b old)
+        ]

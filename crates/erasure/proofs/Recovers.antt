@@ -2,11 +2,11 @@
 use mathlib.Core.Path.{_≡_, refl, sym, ap, _∙_, subst}
 use mathlib.Core.Bool.{true, false, _&&_}
 use mathlib.Core.List.{List}
-use Prim.Native.Nat.{ℕ, zero, suc, _+_, _*_, _<_, _≤_}
+use Prim.Native.Nat.{ℕ, zero, suc, _+_, _-_, _*_, _<_, _≤_}
 use native.Mathlib.Nat.{zero-add}
 use native.Mathlib.Omega.{arith}
 use lib.Dec.{eqb, leb, ltb}
-use lib.ListN.{length, getD}
+use lib.ListN.{length, getD, take, replicate, length-take}
 use Rattle.std.specs.Iters.{counting}
 use Rattle.std.specs.declared.result.Result.{Result}
 use Rattle.std.specs.declared.result.Result.the-variants.{Ok, Err}
@@ -55,6 +55,10 @@ pub no-other : (T : Table) → SecondLaw T → (k s : ℕ) → k ≤ 128 → (ps
 no-other T second k s hk ps xs out pl t ws u = through-only T second k s hk ps xs ws out pl u t
 
 -- ---- the places 0, 1, 2 and so on
+
+-- the part of a space of 32 that they take
+pub places-long : (k : ℕ) → k ≤ 32 → length (take (k - 0) (replicate {A = ℕ} 32 0)) ≡ k
+places-long k h = simp length-take (omega arith)
 
 counting-rises : (a n w : ℕ) → a + n ≤ w → risingFrom a w (counting a n) ≡ true
 unfolding risingFrom

@@ -32,7 +32,7 @@ fn lengths_fit(k: usize, s: usize, n: usize, m: usize) -> bool
 }
 
 // The places 0, 1, 2 and so on.
-fn count_places(places: &mut [u16])
+pub(crate) fn count_places(places: &mut [u16])
     requires { ⌜ length (now places) < 33 ⌝ }
     ensures { λ _. ⌜ ((j : ℕ) → j < length (now (places .exit)) → getD (now (places .exit)) j 0 ≡ j) ⌝ }
 {

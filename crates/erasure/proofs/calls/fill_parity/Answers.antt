@@ -60,4 +60,4 @@ returns g c = λ i hi b hb.
     (λ j hj. half-byte k i j (c .weights .last .rows) hi hj ∙ ap (byteOf k (k + i) j) (c .weights .ensures)
     ∙ weighed-at W ps old (weighable-from ps (length old) (c .pre .0) rises (room-long (2 * k * k) (room k l))) (k + i) j (omega arith) hj)
     ∙ front-weights (g .C·Code .table) W (g .C·Code·met .weighs) k (omega arith) (at ps) d (rising-places k ps refl rises) (c .pre .1 .0)
-    (λ j hj. c .typed .shares (j * s + b) .fits) (k + i) (omega arith)
+    (k + i) (omega arith)

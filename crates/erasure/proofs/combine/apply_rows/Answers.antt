@@ -2,12 +2,11 @@ use mathlib.Core.List.{List}
 use mathlib.Core.Path.{_≡_, ap, _∙_}
 use Prim.Native.Nat.{ℕ, _+_, _-_, _*_, _<_, _≤_}
 use native.Mathlib.Omega.{arith}
-use lib.ListN.{length, getD, take, drop}
-use Rattle.bytes.specs.Shares.{share, byteOf}
-use Rattle.bytes.proofs.Shares.{share-end, share-read, share-length, share-byte, put-more}
+use lib.ListN.{length}
+use Rattle.bytes.specs.Shares.{byteOf}
+use Rattle.bytes.proofs.Shares.{share-end, share-read, share-length, put-more}
 use Rattle.codes.specs.Code.{applied}
-use Rattle.codes.specs.Words.{at}
-use Rattle.codes.proofs.Words.{applied-row}
+use Rattle.erasure.proofs.Parity.{row-part}
 use Rattle.erasure.proofs.combine.apply_rows.Needs as need
 
 pub part-combine-end : need.part-combine-end
@@ -23,15 +22,6 @@ add-i-in-loop-i c =
     let l : c .loop-i .i * c .args .s + c .args .s ≤ length (c .loop-i .out) =
     share-end (c .loop-i .i) (c .args .n) (c .args .s) (length (c .loop-i .out)) (c .loop-i-test .taken) (c .loop-i .kept .out ∙ c .pre .1 .1) in
     record { fits = omega arith }
-
--- row i, as a part of the table
-row-part : (n k i : ℕ) (rows : List ℕ) (d : ℕ → ℕ) → length rows ≡ n * k → i < n
-    → applied (length (take (i * k + k - i * k) (drop (i * k) rows))) (at (take (i * k + k - i * k) (drop (i * k) rows))) d
-    ≡ applied k (λ j. byteOf k i j rows) d
-row-part n k i rows d long h =
-    ap (λ ws. applied (length ws) (at ws) d) (share-read k i rows)
-    ∙ ap (λ (m : ℕ). applied m (at (share k i rows)) d) (share-length k i n rows long h)
-    ∙ applied-row k (at (share k i rows)) (λ j. byteOf k i j rows) d (λ j hj. share-byte k i j rows hj)
 
 pub loop-i-again : need.loop-i-again
 loop-i-again c =
