@@ -4,3 +4,4 @@ pub mod Horner
 pub mod Factors
 pub mod Tables
 pub mod Recovers
+pub mod Parity

@@ -2,11 +2,11 @@
 use mathlib.Core.Path.{_≡_, refl, sym, ap, _∙_, subst}
 use mathlib.Core.Bool.{true, false, _&&_}
 use mathlib.Core.List.{List}
-use Prim.Native.Nat.{ℕ, zero, suc, _+_, _*_, _<_, _≤_}
+use Prim.Native.Nat.{ℕ, zero, suc, _+_, _-_, _*_, _<_, _≤_}
 use native.Mathlib.Nat.{zero-add}
 use native.Mathlib.Omega.{arith}
 use lib.Dec.{eqb, leb, ltb}
-use lib.ListN.{length, getD, take}
+use lib.ListN.{length, getD, take, replicate, length-take}
 use Rattle.std.specs.Iters.{counting}
 use Rattle.std.specs.declared.result.Result.{Result}
 use Rattle.std.specs.declared.result.Result.the-variants.{Ok, Err}
@@ -14,11 +14,11 @@ use Rattle.std.proofs.shelf.Counted.{length-counting, getD-counting}
 use Rattle.std.proofs.shelf.Lists.{ext-getD}
 use Rattle.std.proofs.shelf.Tests.{and-from, and-parts, eqb-true, le-leb, lt-ltb}
 use Rattle.bytes.specs.Outcome.{Refused, plain}
-use Rattle.bytes.specs.Shares.{share, byteOf}
-use Rattle.bytes.proofs.Shares.{share-from-bytes, bytes-from-share, byte-take}
+use Rattle.bytes.specs.Shares.{byteOf}
+use Rattle.bytes.proofs.Shares.{share-from-bytes}
 use Rattle.codes.specs.Code.{Table, Weight, Places, FirstLaw, SecondLaw, WeightLaw, Meets, applied}
 use Rattle.codes.specs.Words.{at, codeword, Through}
-use Rattle.codes.proofs.Words.{applied-data, codeword-same, codeword-word, word-from-bytes, through-only}
+use Rattle.codes.proofs.Words.{applied-data, codeword-word, word-from-bytes, through-only}
 use Rattle.erasure.specs.Limits.{okWidth, okSize}
 use Rattle.erasure.specs.Places.{risingFrom, risingBelow}
 use Rattle.erasure.specs.Calls.{fitting, encodeOutcome, recoverOutcome, GivesBack, NoOther}
@@ -43,14 +43,6 @@ through-from-weights T W law k s hk ps xs out pl lx lo small h =
     meets : (b : ℕ) → Meets T k (at ps) (λ j. byteOf s j b xs) (λ i. applied k (W k (at ps) i) (λ j. byteOf s j b xs))
     meets b = law k hk (at ps) (λ j. byteOf s j b xs) pl (λ j hj. small (j * s + b))
 
--- the codeword through the data at the first k places is that of the data
-pub through-first : (T : Table) (k s : ℕ) (ps xs out : List ℕ) → ((j : ℕ) → j < k → at ps j ≡ j) → Through T k s ps xs out → out ≡ codeword T k s xs
-through-first T k s ps xs out first t =
-    t .word .own
-    ∙ codeword-same T k s (take (k * s) out) xs
-    (λ j hj b hb. byte-take k s j b out hj hb
-    ∙ bytes-from-share s j j b out xs hb (ap (λ (i : ℕ). share s i out) (sym (first j hj)) ∙ t .given j hj))
-
 -- a word through shares of a codeword is that codeword
 pub gives-back : (T : Table) → FirstLaw T → SecondLaw T → (k s : ℕ) → k ≤ 128 → (ps xs out : List ℕ) → Places k (at ps)
     → Through T k s ps xs out → GivesBack T k s ps xs out
@@ -63,6 +55,10 @@ pub no-other : (T : Table) → SecondLaw T → (k s : ℕ) → k ≤ 128 → (ps
 no-other T second k s hk ps xs out pl t ws u = through-only T second k s hk ps xs ws out pl u t
 
 -- ---- the places 0, 1, 2 and so on
+
+-- the part of a space of 32 that they take
+pub places-long : (k : ℕ) → k ≤ 32 → length (take (k - 0) (replicate {A = ℕ} 32 0)) ≡ k
+places-long k h = simp length-take (omega arith)
 
 counting-rises : (a n w : ℕ) → a + n ≤ w → risingFrom a w (counting a n) ≡ true
 unfolding risingFrom
@@ -80,7 +76,7 @@ first-rises k ps long first =
 
 -- ---- outcomes
 
-fitting-parts : (k s n m : ℕ) → fitting k s n m ≡ true → (n ≡ k * s) × (m ≡ 2 * k * s)
+pub fitting-parts : (k s n m : ℕ) → fitting k s n m ≡ true → (n ≡ k * s) × (m ≡ 2 * k * s)
 fitting-parts k s n m h =
     let a = and-parts (eqb n (k * s)) (eqb m (2 * k * s)) h in (eqb-true n (k * s) (a .0), eqb-true m (2 * k * s) (a .1))
 

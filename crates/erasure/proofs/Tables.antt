@@ -2,10 +2,10 @@
 use mathlib.Core.Path.{_≡_, refl, sym, ap, _∙_}
 use mathlib.Core.Bool.{Bool, true, _&&_, cond}
 use mathlib.Core.List.{List}
-use Prim.Native.Nat.{ℕ, _*_, _<_, _≤_}
+use Prim.Native.Nat.{ℕ, _-_, _*_, _<_, _≤_}
 use native.Mathlib.Omega.{arith}
 use lib.Dec.{eqb}
-use lib.ListN.{length}
+use lib.ListN.{length, take, drop, replicate, length-take, length-drop}
 use Rattle.std.proofs.shelf.Bits.{mul-le}
 use Rattle.std.proofs.shelf.Tests.{and-parts, and-from, eqb-true, eq-eqb}
 use Rattle.bytes.specs.Shares.{byteOf}
@@ -38,6 +38,13 @@ unfolding weighable
 weighable-from ps n w r e =
     and-from (okWidth (length ps)) (risingBelow (2 * length ps) ps && eqb n (2 * length ps * length ps)) w
     (and-from (risingBelow (2 * length ps) ps) (eqb n (2 * length ps * length ps)) r (eq-eqb n (2 * length ps * length ps) e))
+
+-- a table fits a space of 2048 bytes
+pub room : (k : ℕ) → k ≤ 32 → 2 * k * k ≤ 2048
+room k l = mul-le (2 * k) k 64 32 (omega arith) l
+
+pub room-long : (n : ℕ) → n ≤ 2048 → length (take (n - 0) (drop 0 (replicate {A = ℕ} 2048 0))) ≡ n
+room-long n h = simp (length-take, length-drop) (omega arith)
 
 -- once the weights are written they stand there
 pub weighed-at : (W : Weight) (ps old : List ℕ) → weighable ps (length old) ≡ true → (i j : ℕ) → i < 2 * length ps → j < length ps

@@ -3,7 +3,7 @@ use mathlib.Core.Path.{_≡_}
 use mathlib.Core.Bool.{Bool, not, _&&_, cond}
 use mathlib.Core.List.{List}
 use Prim.Native.Nat.{ℕ, _*_, _<_}
-use lib.Dec.{eqb}
+use lib.Dec.{eqb, leb}
 use lib.ListN.{length}
 use Rattle.std.specs.declared.result.Result.{Result}
 use Rattle.std.specs.declared.result.Result.the-variants.{Ok, Err}
@@ -17,6 +17,14 @@ use Rattle.erasure.specs.Places.{risingBelow}
 -- buffers of n and m bytes hold k and 2k shares
 abbrev pub fitting : ℕ → ℕ → ℕ → ℕ → Bool
 fitting k s n m = eqb n (k * s) && eqb m (2 * k * s)
+
+-- k is allowed, and buffers of n and m bytes hold k shares each, of whatever size
+unfoldable pub parityFits : ℕ → ℕ → ℕ → ℕ → Bool
+parityFits k size n m = okWidth k && (eqb n (k * size) && eqb m (k * size))
+
+-- k and the size are such that a codeword can be completed in place, and a buffer of n bytes holds 2k shares
+unfoldable pub completeFits : ℕ → ℕ → ℕ → Bool
+completeFits k size n = okWidth k && (leb size 32768 && eqb n (2 * k * size))
 
 -- from k, s and the lengths of the data and of the target
 unfoldable pub encodeOutcome : ℕ → ℕ → ℕ → ℕ → Result (Unit {0}) Refused

@@ -1,15 +1,19 @@
-// Encoding and recovery. Both write the one codeword that has given shares at given places: an encoding has the data at the first k.
-ghost use Prim.Native.Nat.{ℕ, _*_, _<_};
+// Encoding and recovery. An encoding has the data at the first k places and works out the rest; a recovery writes the one codeword
+// that has given shares at given places.
+ghost use Prim.Native.Nat.{ℕ, _+_, _*_, _<_};
 ghost use Rattle.bytes.specs.Outcome.{Refused, outcome};
+ghost use Rattle.bytes.specs.Shares.{byteOf};
 ghost use Rattle.bytes.specs.Written.{written};
+ghost use Rattle.codes.specs.Code.{symbol};
 ghost use Rattle.codes.specs.Words.{Through, codeword};
-ghost use Rattle.erasure.specs.Calls.{GivesBack, NoOther, encodeOutcome, fitting, recoverOutcome};
+ghost use Rattle.erasure.specs.Calls.{GivesBack, NoOther, encodeOutcome, fitting, parityFits, recoverOutcome};
 ghost use Rattle.erasure.specs.Limits.{okWidth};
 ghost use Rattle.erasure.specs.Places.{risingBelow};
 ghost use Rattle.erasure.specs.Refusals.{told};
 ghost use Rattle.std.specs.declared.result.Result.the-variants.{Err, Ok};
-ghost use lib.ListN.{getD, length};
-ghost use mathlib.Core.Bool.{true};
+ghost use lib.Dec.{eqb};
+ghost use lib.ListN.{drop, getD, length};
+ghost use mathlib.Core.Bool.{cond, true};
 ghost use mathlib.Core.List.{List};
 ghost use mathlib.Core.Path.{_≡_};
 use crate::code::Code;
@@ -28,7 +32,7 @@ fn lengths_fit(k: usize, s: usize, n: usize, m: usize) -> bool
 }
 
 // The places 0, 1, 2 and so on.
-fn count_places(places: &mut [u16])
+pub(crate) fn count_places(places: &mut [u16])
     requires { ⌜ length (now places) < 33 ⌝ }
     ensures { λ _. ⌜ ((j : ℕ) → j < length (now (places .exit)) → getD (now (places .exit)) j 0 ≡ j) ⌝ }
 {
@@ -46,7 +50,53 @@ fn fill_word<C: Code>(places: &[u16], s: usize, shares: &[u8], out: &mut [u8])
     let mut space = [0u8; 2048];
     let rows = &mut space[0..2 * k * k];
     C::weights(places, rows);
-    apply_rows(rows, k, s, shares, out);
+    apply_rows(rows, 2 * k, k, s, shares, out);
+}
+
+// Whether n bytes are k shares of this size. A product of such numbers could be too large to be worked out.
+fn holds(k: usize, size: usize, n: usize) -> bool
+    requires { ⌜ 0 < k ⌝ }
+    ensures { λ r. ⌜ r ≡ eqb n (k * size) ⌝ }
+{
+    n / k == size && n % k == 0
+}
+
+// Whether k shares can be encoded, and n and m bytes are k shares of this size each.
+fn parity_fits(k: usize, size: usize, n: usize, m: usize) -> bool
+    ensures { λ r. ⌜ r ≡ parityFits k size n m ⌝ }
+{
+    if ok_width(k) {
+        holds(k, size, n) && holds(k, size, m)
+    } else {
+        false
+    }
+}
+
+// Writes the shares behind the data; the places are the first k.
+fn fill_parity<C: Code>(places: &[u16], size: usize, shares: &[u8], out: &mut [u8])
+    requires { ⌜ okWidth (length (now places)) ≡ true ⌝ ∗ ⌜ ((j : ℕ) → j < length (now places) → getD (now places) j 0 ≡ j) ⌝ ∗ ⌜ length (now shares) ≡ length (now places) * size ⌝ ∗ ⌜ length (now out) ≡ length (now places) * size ⌝ }
+    ensures { λ _. ⌜ ((i : ℕ) → i < length (now (places .entry)) → (b : ℕ) → b < size → byteOf size i b (now (out .exit)) ≡ symbol (C·Code .table) (length (now (places .entry))) (λ j. byteOf size j b (now (shares .entry))) (length (now (places .entry)) + i)) ⌝ }
+{
+    let k = places.len();
+    let mut space = [0u8; 2048];
+    let rows = &mut space[0..2 * k * k];
+    C::weights(places, rows);
+    apply_rows(&rows[k * k..2 * k * k], k, k, size, shares, out);
+}
+
+// Encodes k shares of any size, and writes only the k shares behind the data.
+pub fn parity<C: Code>(k: usize, size: usize, shares: &[u8], out: &mut [u8]) -> bool
+    ensures answer { λ r. ⌜ r ≡ parityFits k size (length (now (shares .entry))) (length (now (out .entry))) ⌝ }
+    ensures rest { λ _. ⌜ now (out .exit) ≡ cond (parityFits k size (length (now (shares .entry))) (length (now (out .entry)))) (drop (k * size) (codeword (C·Code .table) k size (now (shares .entry)))) (now (out .entry)) ⌝ }
+{
+    if !parity_fits(k, size, shares.len(), out.len()) {
+        return false;
+    }
+    let mut space = [0u16; 32];
+    let places = &mut space[0..k];
+    count_places(places);
+    fill_parity::<C>(places, size, shares, out);
+    true
 }
 
 // Encodes k shares of s bytes: out becomes their codeword.
@@ -63,10 +113,8 @@ pub fn encode<C: Code>(k: usize, s: usize, shares: &[u8], out: &mut [u8]) -> Res
     if !lengths_fit(k, s, shares.len(), out.len()) {
         return Err(CodeRefusal::WrongLength);
     }
-    let mut space = [0u16; 32];
-    let places = &mut space[0..k];
-    count_places(places);
-    fill_word::<C>(places, s, shares, out);
+    out[0..k * s].copy_from_slice(shares);
+    parity::<C>(k, s, shares, &mut out[k * s..]);
     Ok(())
 }
 

@@ -34,12 +34,12 @@ pub(crate) fn combine(row: &[u8], shares: &[u8], s: usize, sum: &mut [u8])
     }
 }
 
-// Each share of out is the sum of the shares by that row of the table, which has k columns.
-pub(crate) fn apply_rows(rows: &[u8], k: usize, s: usize, shares: &[u8], out: &mut [u8])
-    requires { ⌜ k < 33 ⌝ ∗ ⌜ s < 513 ⌝ ∗ ⌜ length (now rows) ≡ 2 * k * k ⌝ ∗ ⌜ length (now shares) ≡ k * s ⌝ ∗ ⌜ length (now out) ≡ 2 * k * s ⌝ }
-    ensures { λ _. ⌜ ((i : ℕ) → i < 2 * k → (b : ℕ) → b < s → byteOf s i b (now (out .exit)) ≡ applied k (λ j. byteOf k i j (now (rows .entry))) (λ j. byteOf s j b (now (shares .entry)))) ⌝ }
+// Each of the n shares of out is the sum of the shares by that row of the table, which has k columns.
+pub(crate) fn apply_rows(rows: &[u8], n: usize, k: usize, s: usize, shares: &[u8], out: &mut [u8])
+    requires { ⌜ length (now rows) ≡ n * k ⌝ ∗ ⌜ length (now shares) ≡ k * s ⌝ ∗ ⌜ length (now out) ≡ n * s ⌝ }
+    ensures { λ _. ⌜ ((i : ℕ) → i < n → (b : ℕ) → b < s → byteOf s i b (now (out .exit)) ≡ applied k (λ j. byteOf k i j (now (rows .entry))) (λ j. byteOf s j b (now (shares .entry)))) ⌝ }
 {
-    for i in 0..2 * k {
+    for i in 0..n {
         combine(
             &rows[i * k..i * k + k],
             shares,

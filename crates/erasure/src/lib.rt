@@ -2,6 +2,7 @@
 pub mod calls;
 pub mod code;
 mod combine;
+pub mod complete;
 pub mod kinds;
 pub mod limits;
 mod places;

@@ -2,8 +2,7 @@ use mathlib.Core.List.{List}
 use mathlib.Core.Path.{_≡_, refl, ap, _∙_}
 use Prim.Native.Nat.{ℕ, _-_, _*_, _<_, _≤_}
 use native.Mathlib.Omega.{arith}
-use lib.ListN.{length, take, drop, replicate, length-take, length-drop}
-use Rattle.std.proofs.shelf.Bits.{mul-le}
+use lib.ListN.{length, take, drop, replicate}
 use Rattle.bytes.specs.Shares.{byteOf}
 use Rattle.codes.specs.Code.{Weight}
 use Rattle.codes.specs.Words.{at}
@@ -11,16 +10,9 @@ use Rattle.codes.proofs.Words.{applied-row}
 use Rattle.erasure.specs.Weights.{weighed}
 use Rattle.erasure.proofs.Bounds.{width-most}
 use Rattle.erasure.proofs.Rises.{rising-places}
-use Rattle.erasure.proofs.Tables.{weighable-from, weighed-at}
+use Rattle.erasure.proofs.Tables.{room, room-long, weighable-from, weighed-at}
 use Rattle.erasure.proofs.Recovers.{through-from-weights}
 use Rattle.erasure.proofs.calls.fill_word.Needs as need
-
--- the table fits the space
-room : (k : ℕ) → k ≤ 32 → 2 * k * k ≤ 2048
-room k l = mul-le (2 * k) k 64 32 (omega arith) l
-
-part-long : (n : ℕ) → n ≤ 2048 → length (take (n - 0) (drop 0 (replicate {A = ℕ} 2048 0))) ≡ n
-part-long n h = simp (length-take, length-drop) (omega arith)
 
 pub mul-rows-2 : need.mul-rows-2
 mul-rows-2 g c =
@@ -35,7 +27,7 @@ pub apply-rows-requires : need.apply-rows-requires
 apply-rows-requires g c κs =
     let k : ℕ = length (c .args .places .now) in
     let l : k ≤ 32 = width-most k (c .pre .0) in
-    (omega arith, (c .pre .1 .1 .0, (c .weights .kept .rows ∙ part-long (2 * k * k) (room k l), (c .pre .1 .1 .1 .0, c .pre .1 .1 .1 .1))))
+    (c .weights .kept .rows ∙ room-long (2 * k * k) (room k l), (c .pre .1 .1 .1 .0, c .pre .1 .1 .1 .1))
 
 pub returns : need.returns
 returns g c =
@@ -51,4 +43,4 @@ returns g c =
     (λ i hi b hb. c .apply-rows .ensures i hi b hb
     ∙ applied-row k (λ j. byteOf k i j (c .weights .last .rows)) (W k (at ps) i) (λ j. byteOf s j b (c .args .shares .now))
     (λ j hj. ap (byteOf k i j) (c .weights .ensures)
-    ∙ weighed-at W ps old (weighable-from ps (length old) (c .pre .0) (c .pre .1 .0) (part-long (2 * k * k) (room k l))) i j hi hj))
+    ∙ weighed-at W ps old (weighable-from ps (length old) (c .pre .0) (c .pre .1 .0) (room-long (2 * k * k) (room k l))) i j hi hj))

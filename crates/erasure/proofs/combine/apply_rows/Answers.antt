@@ -1,41 +1,39 @@
 use mathlib.Core.List.{List}
 use mathlib.Core.Path.{_≡_, ap, _∙_}
 use Prim.Native.Nat.{ℕ, _+_, _-_, _*_, _<_, _≤_}
-use lib.ListN.{length, getD, take, drop}
-use Rattle.bytes.specs.Shares.{share, byteOf}
-use Rattle.bytes.proofs.Shares.{share-end, share-read, share-length, share-byte, put-more}
+use native.Mathlib.Omega.{arith}
+use lib.ListN.{length}
+use Rattle.bytes.specs.Shares.{byteOf}
+use Rattle.bytes.proofs.Shares.{share-end, share-read, share-length, put-more}
 use Rattle.codes.specs.Code.{applied}
-use Rattle.codes.specs.Words.{at}
-use Rattle.codes.proofs.Words.{applied-row}
+use Rattle.erasure.proofs.Parity.{row-part}
 use Rattle.erasure.proofs.combine.apply_rows.Needs as need
 
 pub part-combine-end : need.part-combine-end
 part-combine-end c =
-    share-end (c .loop-i .i) (2 * c .args .k) (c .args .k) (length (c .args .rows .now)) (c .loop-i-test .taken) (c .pre .1 .1 .0)
+    share-end (c .loop-i .i) (c .args .n) (c .args .k) (length (c .args .rows .now)) (c .loop-i-test .taken) (c .pre .0)
 
 pub part-combine-end-in-loop-i : need.part-combine-end-in-loop-i
 part-combine-end-in-loop-i c =
-    share-end (c .loop-i .i) (2 * c .args .k) (c .args .s) (length (c .loop-i .out)) (c .loop-i-test .taken) (c .loop-i .kept .out ∙ c .pre .1 .1 .1 .1)
+    share-end (c .loop-i .i) (c .args .n) (c .args .s) (length (c .loop-i .out)) (c .loop-i-test .taken) (c .loop-i .kept .out ∙ c .pre .1 .1)
 
--- row i, as a part of the table
-row-part : (k i : ℕ) (rows : List ℕ) (d : ℕ → ℕ) → length rows ≡ 2 * k * k → i < 2 * k
-    → applied (length (take (i * k + k - i * k) (drop (i * k) rows))) (at (take (i * k + k - i * k) (drop (i * k) rows))) d
-    ≡ applied k (λ j. byteOf k i j rows) d
-row-part k i rows d long h =
-    ap (λ ws. applied (length ws) (at ws) d) (share-read k i rows)
-    ∙ ap (λ (n : ℕ). applied n (at (share k i rows)) d) (share-length k i (2 * k) rows long h)
-    ∙ applied-row k (at (share k i rows)) (λ j. byteOf k i j rows) d (λ j hj. share-byte k i j rows hj)
+pub add-i-in-loop-i : need.add-i-in-loop-i
+add-i-in-loop-i c =
+    let l : c .loop-i .i * c .args .s + c .args .s ≤ length (c .loop-i .out) =
+    share-end (c .loop-i .i) (c .args .n) (c .args .s) (length (c .loop-i .out)) (c .loop-i-test .taken) (c .loop-i .kept .out ∙ c .pre .1 .1) in
+    record { fits = omega arith }
 
 pub loop-i-again : need.loop-i-again
 loop-i-again c =
     let i : ℕ = c .loop-i .i in
+    let n : ℕ = c .args .n in
     let k : ℕ = c .args .k in
     let s : ℕ = c .args .s in
     let out : List ℕ = c .loop-i .out in
-    let long : length out ≡ 2 * k * s = c .loop-i .kept .out ∙ c .pre .1 .1 .1 .1 in
-    put-more s i (2 * k) (i * s + s - i * s) out (c .combine .last .sum) long (c .loop-i-test .taken)
-    (c .combine .kept .sum ∙ ap length (share-read s i out) ∙ share-length s i (2 * k) out long (c .loop-i-test .taken))
+    let long : length out ≡ n * s = c .loop-i .kept .out ∙ c .pre .1 .1 in
+    put-more s i n (i * s + s - i * s) out (c .combine .last .sum) long (c .loop-i-test .taken)
+    (c .combine .kept .sum ∙ ap length (share-read s i out) ∙ share-length s i n out long (c .loop-i-test .taken))
     (λ i b. applied k (λ j. byteOf k i j (c .args .rows .now)) (λ j. byteOf s j b (c .args .shares .now)))
     (c .loop-i .inv)
     (λ b hb. c .combine .ensures b hb
-    ∙ row-part k i (c .args .rows .now) (λ j. byteOf s j b (c .args .shares .now)) (c .pre .1 .1 .0) (c .loop-i-test .taken))
+    ∙ row-part n k i (c .args .rows .now) (λ j. byteOf s j b (c .args .shares .now)) (c .pre .0) (c .loop-i-test .taken))

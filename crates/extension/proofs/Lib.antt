@@ -1,0 +1,4 @@
+pub mod Squares
+pub mod Lines
+pub mod Extends
+pub mod Fills
