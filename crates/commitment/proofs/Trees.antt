@@ -13,6 +13,7 @@ use Rattle.merkle.specs.Climb.{Node, plainRule, joinOf, slot}
 use Rattle.merkle.specs.Tree.{node, root}
 use Rattle.merkle.specs.Layout.{treeLayout, treeLen, rootOf}
 use Rattle.merkle.proofs.Layouts.{layouts-stand}
+use Rattle.layout.proofs.Entries.{entries-at}
 use Rattle.merkle.proofs.Same.{layout-same, node-same}
 use Rattle.bytes.proofs.Joins.{joined-same}
 use Rattle.std.specs.Iters.{counting}
@@ -68,3 +69,11 @@ pub value-root-cut : (f : List ℕ → List ℕ) → ((m : List ℕ) → length 
     → tree ≡ valueTree f d s xs → length out ≡ digestLen → top ≡ cutRoot d tree out → top ≡ valueRoot f d s xs
 unfolding valueTree valueRoot
 value-root-cut f sized d s xs tree out top l e o w = root-cut f sized (valueLeaf f s xs) d tree out top l (λ i b. sized _) e o w
+
+-- the root of a line among the roots
+pub roots-at : (f : List ℕ → List ℕ) → ((m : List ℕ) → length (f m) ≡ digestLen) → (w d s : ℕ) (sq : List ℕ) (n : ℕ) → n < 2 * w
+    → slot n (squareRoots f w d s sq) ≡ root (joinOf plainRule f) d (lineLeaf f w s sq n)
+unfolding squareRoots
+roots-at f sized w d s sq n l =
+    entries-at (λ i. root (joinOf plainRule f) d (lineLeaf f w s sq i)) 0 (2 * w) (λ i. root-sized f sized (lineLeaf f w s sq i) d (sized _)) n l
+    ∙ ap (λ i. root (joinOf plainRule f) d (lineLeaf f w s sq i)) (omega arith)

@@ -1,49 +1,39 @@
 -- What a square's own evidence proves.
-use mathlib.Core.Path.{_≡_, refl, ap, sym, _∙_}
+use mathlib.Core.Path.{_≡_, ap, sym, _∙_}
 use mathlib.Core.Bool.{true}
-use mathlib.Core.List.{List, _++_}
-use Prim.Native.Nat.{ℕ, _+_, _*_, _^_, _<_}
+use mathlib.Core.List.{List}
+use Prim.Native.Nat.{ℕ, _+_, _*_, _<_}
 use native.Mathlib.Nat.{mul-comm}
 use native.Mathlib.Omega.{arith}
 use lib.ListN.{length, take, drop, length-append}
-use Rattle.std.specs.Iters.{counting}
-use Rattle.std.specs.Joined.{joined}
 use Rattle.std.proofs.shelf.Bits.{mul-add-lt}
 use Rattle.std.proofs.shelf.Tests.{and-from, eq-eqb, lt-ltb}
 use Rattle.bytes.specs.Shares.{share}
 use Rattle.bytes.proofs.Shares.{share-length}
 use Rattle.hash.specs.Digests.{digestLen}
 use Rattle.merkle.specs.Tree.{root}
-use Rattle.merkle.specs.Climb.{Node, plainRule, leafOf, joinOf, slot, climb, throughTwo}
-use Rattle.merkle.specs.Layout.{treeLayout, pathOf}
+use Rattle.merkle.specs.Climb.{plainRule, leafOf, joinOf}
 use Rattle.merkle.proofs.Bound.{same-true}
 use Rattle.merkle.proofs.Layouts.{layouts-stand, climbs-both}
-use Rattle.layout.proofs.Entries.{entries-at}
 use Rattle.erasure.specs.Limits.{okWidth}
 use Rattle.header.specs.declared.cell.Axis.{Axis}
 use Rattle.header.specs.Fields.{Fields}
 use Rattle.header.specs.Lines.{lineOf, placeOn}
-use Rattle.header.specs.Sizes.{width, depth, depthOf, squareLen, pathLen, hasCell, lineNumber, cellNumber}
+use Rattle.header.specs.Sizes.{width, depth, squareLen, pathLen, hasCell, lineNumber, cellNumber}
 use Rattle.header.proofs.Measures.{depth-power, depth-above}
 use Rattle.header.proofs.Numbers.{line-in, place-in, cell-on}
 use Rattle.commitment.specs.Values.{valueLeaf, valueTree, valueRoot}
-use Rattle.commitment.specs.Roots.{lineLeaf, lineTree, squareRoots, rootsOf, dataRootOf}
-use Rattle.commitment.proofs.Trees.{root-sized}
+use Rattle.commitment.specs.Roots.{lineLeaf, lineTree, rootsOf, dataRootOf}
+use Rattle.commitment.proofs.Trees.{roots-at}
 use Rattle.evidence.specs.Evidence.{verifies, evidenceEnd}
-use Rattle.evidence.specs.Paths.{Proves, cellShare, evidencePath}
+use Rattle.evidence.specs.Paths.{cellShare, evidencePath}
 
 module _ (f : List ℕ → List ℕ) (sized : (m : List ℕ) → length (f m) ≡ digestLen) (h : Fields) (wide : okWidth (h .k) ≡ true) where
-  J : Node → Node → Node
-  J = joinOf plainRule f
-
   -- the root of a line among the roots
   root-among : (sq : List ℕ) (n : ℕ) → n < 2 * width h → share digestLen n (rootsOf f h sq) ≡ root (joinOf plainRule f) (depth h) (lineLeaf f (width h) (h .s) sq n)
-  unfolding squareRoots share
+  unfolding share
   root-among sq n l =
-      ap (λ i. take digestLen (drop i (rootsOf f h sq))) (mul-comm n digestLen)
-      ∙ entries-at (λ i. root (joinOf plainRule f) (depth h) (lineLeaf f (width h) (h .s) sq i)) 0 (2 * width h)
-        (λ i. root-sized f sized (lineLeaf f (width h) (h .s) sq i) (depth h) (sized _)) n l
-      ∙ ap (λ i. root (joinOf plainRule f) (depth h) (lineLeaf f (width h) (h .s) sq i)) (omega arith)
+      ap (λ i. take digestLen (drop i (rootsOf f h sq))) (mul-comm n digestLen) ∙ roots-at f sized (width h) (depth h) (h .s) sq n l
 
   module _ (sq roots : List ℕ) (axis : Axis) (r c : ℕ) (in-row : r < width h) (in-col : c < width h) (own : roots ≡ rootsOf f h sq) where
     -- the climb of the evidence ends at the data root

@@ -53,3 +53,9 @@ pub record GivenBy (f : List ℕ → List ℕ) (T : Table) (h : Fields) (d : Lis
   pub long : length d ≡ dataLen h
   pub bytes : (n : ℕ) → getD d n 0 < 256
   pub root : h .dataRoot ≡ dataRootOf f h (rootsOf f h (extension T (h .k) (h .s) d))
+
+-- so it is of all data of an allowed k and s and the right length
+abbrev pub ExtendStands : (List ℕ → List ℕ) → Table → Fields → List ℕ → Type 0
+ExtendStands f T h d =
+    okWidth (h .k) ≡ true → okSize (h .s) ≡ true → length d ≡ dataLen h
+    → Extended f T h d (extension T (h .k) (h .s) d) (rootsOf f h (extension T (h .k) (h .s) d)) × GivenBy f T (committed f h (extension T (h .k) (h .s) d)) d

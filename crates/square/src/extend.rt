@@ -4,10 +4,9 @@ ghost use Rattle.bytes.specs.Written.{written};
 ghost use Rattle.commitment.specs.Commit.{blank};
 ghost use Rattle.commitment.specs.Roots.{rootsOf};
 ghost use Rattle.extension.specs.Square.{extension};
-ghost use Rattle.header.specs.Fields.{Fields, fieldsOf};
+ghost use Rattle.header.specs.Fields.{fieldsOf};
 ghost use Rattle.header.specs.Refusals.{told};
-ghost use Rattle.square.specs.Extend.{Extended, GivenBy, extendFits, extendOutcome};
-ghost use Rattle.std.specs.declared.result.Result.the-variants.{Ok};
+ghost use Rattle.square.specs.Extend.{ExtendStands, extendFits, extendOutcome};
 ghost use lib.ListN.{length};
 ghost use mathlib.Core.Path.{_≡_};
 use commitment::commit::commit;
@@ -39,6 +38,7 @@ pub fn extend<H: Hash, C: Code>(
     ensures answer { λ r. ⌜ outcomeBy fieldsOf told r ≡ extendOutcome (H·Hash .meaning) (C·Code .table) (blank k s (H·Hash .kind) (C·Code .kind)) (now (shares .entry)) (length (now (square .entry))) (length (now (roots .entry))) ⌝ }
     ensures square { λ _. ⌜ now (square .exit) ≡ written (extendOutcome (H·Hash .meaning) (C·Code .table) (blank k s (H·Hash .kind) (C·Code .kind)) (now (shares .entry)) (length (now (square .entry))) (length (now (roots .entry)))) (extension (C·Code .table) k s (now (shares .entry))) (now (square .entry)) ⌝ }
     ensures roots { λ _. ⌜ now (roots .exit) ≡ written (extendOutcome (H·Hash .meaning) (C·Code .table) (blank k s (H·Hash .kind) (C·Code .kind)) (now (shares .entry)) (length (now (square .entry))) (length (now (roots .entry)))) (rootsOf (H·Hash .meaning) (blank k s (H·Hash .kind) (C·Code .kind)) (extension (C·Code .table) k s (now (shares .entry)))) (now (roots .entry)) ⌝ }
+    ensures stands { λ _. ⌜ ExtendStands (H·Hash .meaning) (C·Code .table) (blank k s (H·Hash .kind) (C·Code .kind)) (now (shares .entry)) ⌝ }
 {
     let h = make_header(k, s, H::kind_byte(), C::kind_byte(), &[0u8; DIGEST_LEN])?;
     if !lengths_fit(&h, shares.len(), square.len(), roots.len()) {

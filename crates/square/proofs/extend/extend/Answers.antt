@@ -2,6 +2,7 @@ use mathlib.Core.Path.{_≡_, refl, sym, ap, _∙_}
 use mathlib.Core.Bool.{true}
 use mathlib.Core.List.{List}
 use Prim.Native.Nat.{ℕ}
+use native.Mathlib.Omega.{arith}
 use borrow.Author.Needs.{needs}
 use lib.Dec.{eqb}
 use lib.ListN.{length, replicate}
@@ -14,11 +15,29 @@ use Rattle.extension.specs.Square.{extension, fillFits}
 use Rattle.commitment.specs.Roots.{rootsOf, squareFits}
 use Rattle.commitment.specs.Commit.{blank, committed, commitOutcome}
 use Rattle.square.specs.Extend.{extendFits, extendOutcome}
+use Rattle.square.proofs.Laws.{stand}
 use Rattle.square.proofs.Outcomes.{extend-granted, commit-granted, fill-granted}
 use Rattle.square.proofs.extend.extend.Needs as need
 
 pub returns-in-Break-h : need.returns-in-Break-h
-returns-in-Break-h g c = record { answer = search needs; square = search needs; roots = search needs }
+returns-in-Break-h g c = record {
+  answer = search needs;
+  square = search needs;
+  roots = search needs;
+  stands = λ w z l.
+      let b = blank (c .args .k) (c .args .s) (g .H·Hash .kind) (g .C·Code .kind) in
+      stand (g .H·Hash .meaning) (g .H·Hash·met .sized) b w (g .C·Code .table) (g .C·Code·met .first) (g .C·Code·met .second) (c .args .shares .now) (λ n. omega (arith, c .typed .shares n)) z l;
+}
+
+pub returns-then-not-lengths-fit : need.returns-then-not-lengths-fit
+returns-then-not-lengths-fit g c = record {
+  answer = search needs;
+  square = search needs;
+  roots = search needs;
+  stands = λ w z l.
+      let b = blank (c .args .k) (c .args .s) (g .H·Hash .kind) (g .C·Code .kind) in
+      stand (g .H·Hash .meaning) (g .H·Hash·met .sized) b w (g .C·Code .table) (g .C·Code·met .first) (g .C·Code·met .second) (c .args .shares .now) (λ n. omega (arith, c .typed .shares n)) z l;
+}
 
 pub returns : need.returns
 returns g c =
@@ -44,4 +63,5 @@ returns g c =
         ∙ ap (λ x. written (commitOutcome f b x m) (rootsOf f b x) (c .args .roots .now)) sq-is
         ∙ ap (λ o. written o (rootsOf f b ext) (c .args .roots .now)) C
         ∙ sym (ap (λ o. written o (rootsOf f b ext) (c .args .roots .now)) E);
+      stands = λ w z l. stand f (g .H·Hash·met .sized) b w T (g .C·Code·met .first) (g .C·Code·met .second) d (λ n. omega (arith, c .typed .shares n)) z l;
     }
