@@ -2,7 +2,7 @@
 use mathlib.Core.Path.{_≡_, sym, ap, _∙_}
 use mathlib.Core.List.{List, _++_}
 use Prim.Native.Nat.{ℕ, zero, suc, _+_, _-_, _*_, _/_, _%_, _<_, _≤_}
-use native.Mathlib.Nat.{add-mul, mul-assoc, add-assoc, mul-zero, mod-lt, div-add-mod', div-lt-iff-lt-mul, zero-lt-suc, not-suc-le-zero}
+use native.Mathlib.Nat.{add-mul, mul-assoc, mul-zero, mod-lt, div-add-mod', div-lt-iff-lt-mul, zero-lt-suc, not-suc-le-zero}
 use native.Mathlib.Omega.{arith}
 use borrow.Rule.Slice.PartMut.{putMid}
 use lib.ListN.{length, take, drop, getD, length-append, length-take, length-drop}

@@ -84,7 +84,8 @@ fn fill_parity<C: Code>(places: &[u16], size: usize, shares: &[u8], out: &mut [u
     apply_rows(&rows[k * k..2 * k * k], k, k, size, shares, out);
 }
 
-// Encodes k shares of any size, and writes only the k shares behind the data.
+// Encodes k shares of any size, and writes only the k shares behind the data. It answers whether k and the lengths are right; if not,
+// out is as it was.
 pub fn parity<C: Code>(k: usize, size: usize, shares: &[u8], out: &mut [u8]) -> bool
     ensures answer { λ r. ⌜ r ≡ parityFits k size (length (now (shares .entry))) (length (now (out .entry))) ⌝ }
     ensures rest { λ _. ⌜ now (out .exit) ≡ cond (parityFits k size (length (now (shares .entry))) (length (now (out .entry)))) (drop (k * size) (codeword (C·Code .table) k size (now (shares .entry)))) (now (out .entry)) ⌝ }

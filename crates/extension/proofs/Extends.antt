@@ -1,5 +1,5 @@
 -- The laws of extended squares.
-use mathlib.Core.Path.{_≡_, refl, sym, ap, _∙_}
+use mathlib.Core.Path.{_≡_, sym, ap, _∙_}
 use mathlib.Core.List.{List}
 use Prim.Native.Nat.{ℕ, _+_, _*_, _%_, _<_, _≤_}
 use native.Mathlib.Omega.{arith}
@@ -7,15 +7,13 @@ use lib.ListN.{length, getD}
 use Rattle.bytes.specs.Shares.{byteOf}
 use Rattle.codes.specs.Code.{Table, FirstLaw, SecondLaw, symbol}
 use Rattle.codes.specs.Grid.{extended}
-use Rattle.codes.specs.Words.{IsWord}
 use Rattle.codes.proofs.Grid.{grid-law}
 use Rattle.codes.proofs.Words.{applied-data, applied-byte, applied-low, first-low, word-byte, word-from-bytes}
-use Rattle.header.specs.declared.cell.Axis.{Axis}
 use Rattle.header.specs.declared.cell.Axis.the-variants.{Row, Column}
 use Rattle.extension.specs.Square.{cellByte, extension, quadrant}
 use Rattle.extension.specs.Lines.{lineShares}
 use Rattle.extension.specs.Laws.{LinesCoded, LinesFromAny, CodedIsExtension}
-use Rattle.extension.proofs.Squares.{extension-length, extension-byte, extension-from-bytes, quadrant-byte, quadrant-from-bytes}
+use Rattle.extension.proofs.Squares.{extension-byte, extension-from-bytes, quadrant-byte, quadrant-from-bytes}
 use Rattle.extension.proofs.Lines.{line-length, line-byte, word-through}
 
 -- ---- one byte of each share
@@ -103,3 +101,9 @@ coded-is-extension T k s sq long coded =
         sym (line-byte k s Column c sq r b hr hb) ∙ word-byte T k s (lineShares k s Column c sq) (coded Column c hc) r b hr hb
         ∙ applied-data k (T k r) (λ i. byteOf s i b (lineShares k s Column c sq)) (λ i. cellByte (2 * k) s i c b sq)
         (λ i hi. line-byte k s Column c sq i b (omega arith) hb)
+
+-- two of them with one first quadrant are equal
+pub coded-same : (T : Table) (k s : ℕ) (xs ys : List ℕ) → length xs ≡ 2 * k * (2 * k) * s → length ys ≡ 2 * k * (2 * k) * s
+    → LinesCoded T k s xs → LinesCoded T k s ys → quadrant k s xs ≡ quadrant k s ys → xs ≡ ys
+coded-same T k s xs ys lx ly cx cy e =
+    coded-is-extension T k s xs lx cx ∙ ap (extension T k s) e ∙ sym (coded-is-extension T k s ys ly cy)

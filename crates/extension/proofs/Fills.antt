@@ -1,6 +1,6 @@
 -- A square filled by rows, and then by all columns at once.
 use mathlib.Core.Path.{_≡_, sym, ap, _∙_}
-use mathlib.Core.Bool.{true, _&&_}
+use mathlib.Core.Bool.{true, _&&_, cond}
 use mathlib.Core.List.{List}
 use Prim.Native.Nat.{ℕ, _+_, _*_, _<_, _≤_}
 use native.Mathlib.Nat.{mul-assoc}
@@ -8,7 +8,7 @@ use native.Mathlib.Omega.{arith}
 use lib.Dec.{eqb}
 use lib.ListN.{length, getD, take}
 use Rattle.std.proofs.shelf.Bits.{mul-le}
-use Rattle.std.proofs.shelf.Tests.{and-parts, and-from, eqb-true, eq-eqb}
+use Rattle.std.proofs.shelf.Tests.{and-parts, and-from, eqb-true, eq-eqb, cond-true}
 use Rattle.bytes.specs.Written.{written}
 use Rattle.bytes.specs.Shares.{share, byteOf}
 use Rattle.bytes.proofs.Shares.{byte-take}
@@ -17,8 +17,9 @@ use Rattle.codes.specs.Code.{Table, symbol}
 use Rattle.codes.specs.Words.{codeword}
 use Rattle.codes.proofs.Words.{applied-data, codeword-length, codeword-byte}
 use Rattle.erasure.specs.Limits.{okWidth, okSize}
-use Rattle.erasure.specs.Calls.{encodeOutcome}
+use Rattle.erasure.specs.Calls.{encodeOutcome, completeFits}
 use Rattle.erasure.proofs.Recovers.{encode-fine}
+use Rattle.erasure.proofs.Parity.{complete-fits}
 use Rattle.erasure.proofs.Bounds.{width-most, size-most}
 use Rattle.extension.specs.Square.{cellByte, extension, fillFits}
 use Rattle.extension.proofs.Squares.{extension-from-bytes}
@@ -67,6 +68,13 @@ fill-parts k s n m h =
     let e = and-parts (eqb n (k * k * s)) (eqb m (2 * k * (2 * k) * s)) (b .1) in
     record { wide = a .0; sized = b .0; from = eqb-true n (k * k * s) (e .0); into = eqb-true m (2 * k * (2 * k) * s) (e .1) }
 
+pub fill-fits : (k s n m : ℕ) → okWidth k ≡ true → okSize s ≡ true → n ≡ k * k * s → m ≡ 2 * k * (2 * k) * s → fillFits k s n m ≡ true
+unfolding fillFits
+fill-fits k s n m w z e f =
+    and-from (okWidth k) (okSize s && (eqb n (k * k * s) && eqb m (2 * k * (2 * k) * s))) w
+    (and-from (okSize s) (eqb n (k * k * s) && eqb m (2 * k * (2 * k) * s)) z
+    (and-from (eqb n (k * k * s)) (eqb m (2 * k * (2 * k) * s)) (eq-eqb n (k * k * s) e) (eq-eqb m (2 * k * (2 * k) * s) f)))
+
 -- the k rows of the data extended, and then their columns, all as one codeword whose shares are rows
 pub extension-from-rows : (T : Table) (k s : ℕ) (d sq : List ℕ)
     → ((r : ℕ) → r < k → (x : ℕ) → x < 2 * k * s → byteOf (2 * k * s) r x sq ≡ getD (codeword T k s (share (k * s) r d)) x 0)
@@ -91,3 +99,12 @@ encoded-row T k s row old new wide sized lr lo e =
     ∙ ap (λ o. written o (codeword T k s row) old)
     (encode-fine k s (length row) (length old) wide sized
     (and-from (eqb (length row) (k * s)) (eqb (length old) (2 * k * s)) (eq-eqb (length row) (k * s) lr) (eq-eqb (length old) (2 * k * s) lo)))
+
+-- what the completion of a square of rows leaves in it
+pub columns-filled : (T : Table) (k s : ℕ) (old new : List ℕ) → okWidth k ≡ true → okSize s ≡ true → length old ≡ 2 * k * (2 * k * s)
+    → new ≡ cond (completeFits k (2 * k * s) (length old)) (codeword T k (2 * k * s) (take (k * (2 * k * s)) old)) old
+    → new ≡ codeword T k (2 * k * s) (take (k * (2 * k * s)) old)
+columns-filled T k s old new wide sized long e =
+    e
+    ∙ cond-true (completeFits k (2 * k * s) (length old)) (codeword T k (2 * k * s) (take (k * (2 * k * s)) old)) old
+    (complete-fits k (2 * k * s) (length old) wide (small k s wide sized .line) long)

@@ -1,10 +1,9 @@
 -- The lines of a square.
-use mathlib.Core.Path.{_≡_, refl, sym, ap, _∙_}
+use mathlib.Core.Path.{_≡_, sym, _∙_}
 use mathlib.Core.Bool.{true}
 use mathlib.Core.List.{List}
 use Prim.Native.Nat.{ℕ, _+_, _*_, _<_, _≤_}
 use native.Mathlib.Nat.{mul-assoc}
-use native.Mathlib.Omega.{arith}
 use lib.ListN.{length}
 use Rattle.bytes.specs.Shares.{share, byteOf}
 use Rattle.bytes.proofs.Shares.{share-length, share-from-bytes, same-from-bytes, buffer-length, buffer-byte}

@@ -2,6 +2,7 @@
 ghost use Prim.Native.Nat.{ℕ, _*_, _<_};
 ghost use Rattle.bytes.specs.Shares.{byteOf, share};
 ghost use Rattle.codes.specs.Words.{codeword};
+ghost use Rattle.erasure.specs.Calls.{completeFits};
 ghost use Rattle.erasure.specs.Limits.{okSize, okWidth};
 ghost use Rattle.extension.specs.Laws.{LinesCoded, LinesFromAny};
 ghost use Rattle.extension.specs.Square.{extension, extensionByColumns, fillFits, quadrant};
@@ -32,8 +33,8 @@ fn fill_rows<C: Code>(k: usize, s: usize, shares: &[u8], square: &mut [u8])
 
 // Extends all columns at once: the first k rows are k shares of a code whose shares are rows, and the others complete the codeword.
 fn fill_columns<C: Code>(k: usize, s: usize, square: &mut [u8])
-    requires { ⌜ okWidth k ≡ true ⌝ ∗ ⌜ okSize s ≡ true ⌝ ∗ ⌜ length (now square) ≡ 2 * k * (2 * k * s) ⌝ }
-    ensures { λ _. ⌜ now (square .exit) ≡ codeword (C·Code .table) k (2 * k * s) (take (k * (2 * k * s)) (now (square .entry))) ⌝ }
+    requires { ⌜ k < 33 ⌝ ∗ ⌜ s < 513 ⌝ }
+    ensures { λ _. ⌜ now (square .exit) ≡ cond (completeFits k (2 * k * s) (length (now (square .entry)))) (codeword (C·Code .table) k (2 * k * s) (take (k * (2 * k * s)) (now (square .entry)))) (now (square .entry)) ⌝ }
 {
     complete::<C>(k, 2 * k * s, square);
 }

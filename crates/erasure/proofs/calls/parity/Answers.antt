@@ -10,7 +10,7 @@ use Rattle.codes.specs.Words.{codeword}
 use Rattle.erasure.specs.Limits.{okWidth}
 use Rattle.erasure.proofs.Bounds.{width-most}
 use Rattle.erasure.proofs.Recovers.{places-long}
-use Rattle.erasure.proofs.Parity.{ParityFits, parity-parts, rest-from-bytes}
+use Rattle.erasure.proofs.Parity.{parity-parts, rest-from-bytes}
 use Rattle.erasure.proofs.calls.parity.Needs as need
 
 pub part-space-end : need.part-space-end

@@ -6,12 +6,12 @@ use native.Mathlib.Nat.{mul-assoc}
 use native.Mathlib.Omega.{arith}
 use lib.ListN.{length}
 use Rattle.codes.specs.Code.{Table}
-use Rattle.erasure.proofs.Bounds.{width-most}
+use Rattle.erasure.proofs.Bounds.{width-most, size-most}
 use Rattle.extension.specs.Square.{extension, quadrant}
 use Rattle.extension.specs.Laws.{LinesCoded, LinesFromAny}
 use Rattle.extension.proofs.Squares.{extension-by-columns}
 use Rattle.extension.proofs.Extends.{extension-lines, extension-through, extension-quadrant}
-use Rattle.extension.proofs.Fills.{fill-parts, extension-from-rows}
+use Rattle.extension.proofs.Fills.{fill-parts, columns-filled, extension-from-rows}
 use Rattle.extension.proofs.fill.fill.Needs as need
 
 pub fill-rows-requires : need.fill-rows-requires
@@ -22,7 +22,9 @@ fill-rows-requires g c κs =
 pub fill-columns-requires : need.fill-columns-requires
 fill-columns-requires g c κs =
     let f = fill-parts (c .args .k) (c .args .s) (length (c .args .shares .now)) (length (c .args .square .now)) (sym (c .if-not-fill-fits .ensures tt)) in
-    (f .wide, (f .sized, c .fill-rows .kept .square ∙ f .into ∙ mul-assoc (2 * c .args .k) (2 * c .args .k) (c .args .s)))
+    let w : c .args .k ≤ 32 = width-most (c .args .k) (f .wide) in
+    let z : c .args .s ≤ 512 = size-most (c .args .s) (f .sized) in
+    (omega arith, omega arith)
 
 pub returns : need.returns
 returns g c =
@@ -35,7 +37,9 @@ returns g c =
     let f = fill-parts k s (length xs) (length (c .args .square .now)) (sym e) in
     let w : k ≤ 32 = width-most k (f .wide) in
     let m : k ≤ 128 = omega arith in
-    let is : sq ≡ extension T k s xs = c .fill-columns .ensures ∙ extension-from-rows T k s xs (c .fill-rows .last .square) (c .fill-rows .ensures) in
+    let is : sq ≡ extension T k s xs =
+    columns-filled T k s (c .fill-rows .last .square) sq (f .wide) (f .sized) (c .fill-rows .kept .square ∙ f .into ∙ mul-assoc (2 * k) (2 * k) s) (c .fill-columns .ensures)
+    ∙ extension-from-rows T k s xs (c .fill-rows .last .square) (c .fill-rows .ensures) in
     record {
       answer = e;
       filled = is ∙ ap (λ t. cond t (extension T k s xs) (c .args .square .now)) e;

@@ -3,10 +3,10 @@ use mathlib.Core.Path.{_≡_, ap, _∙_}
 use Prim.Native.Nat.{ℕ, _+_, _-_, _*_, _<_, _≤_}
 use native.Mathlib.Omega.{arith}
 use lib.ListN.{length, getD, take, drop}
-use Rattle.bytes.specs.Shares.{share, byteOf}
+use Rattle.bytes.specs.Shares.{share}
 use Rattle.bytes.proofs.Shares.{share-end, share-read, share-length, put-more}
 use Rattle.codes.specs.Words.{codeword}
-use Rattle.extension.proofs.Fills.{Small, small, encoded-row}
+use Rattle.extension.proofs.Fills.{small, encoded-row}
 use Rattle.extension.proofs.fill.fill_rows.Needs as need
 
 pub mul-line : need.mul-line

@@ -1,9 +1,9 @@
-use mathlib.Core.Path.{_≡_, sym, _∙_}
-use Prim.Native.Nat.{ℕ, _*_}
+use mathlib.Core.Path.{sym}
+use Prim.Native.Nat.{_*_}
 use native.Mathlib.Omega.{arith}
 use Rattle.std.proofs.shelf.Tests.{eq-eqb, ne-eqb}
 use Rattle.extension.specs.Square.{fillFits}
-use Rattle.extension.proofs.Fills.{Small, small}
+use Rattle.extension.proofs.Fills.{small}
 use Rattle.extension.proofs.lengths.fill_fits.Needs as need
 
 pub returns-then-not-ok-width : need.returns-then-not-ok-width
