@@ -7,7 +7,7 @@ use lib.ListN.{length, getD, take}
 use borrow.Rule.Slice.PartMut.{putMid}
 use Rattle.std.specs.Iters.{counting}
 use Rattle.std.specs.Joined.{joined}
-use Rattle.std.proofs.shelf.Lists.{joined-more, take-more, take-all}
+use Rattle.std.proofs.shelf.Lists.{joined-more, take-more, take-all, append-nil, append-assoc}
 use Rattle.std.proofs.shelf.Parts.{take-putMid}
 
 -- one more of them is written behind those that stand
@@ -41,3 +41,13 @@ joined-same f g a zero e = refl
 joined-same f g a (suc n) e =
     ap (λ x. x ++ joined f (counting (a + 1) n)) (e a (omega arith))
     ∙ ap (λ x. g a ++ x) (joined-same f g (a + 1) n (λ i l. e i (omega arith)))
+
+-- one part more at the end
+pub joined-last : (f : ℕ → List ℕ) (a n : ℕ) → joined f (counting a (n + 1)) ≡ joined f (counting a n) ++ f (a + n)
+joined-last f a zero = let z : a ≡ a + 0 = omega arith in append-nil (f a) ∙ ap f z
+joined-last f a (suc n) =
+    let one : suc n + 1 ≡ suc (n + 1) = omega arith in
+    let two : a + 1 + n ≡ a + suc n = omega arith in
+    ap (λ i. joined f (counting a i)) one
+    ∙ ap (λ x. f a ++ x) (joined-last f (a + 1) n ∙ ap (λ i. joined f (counting (a + 1) n) ++ f i) two)
+    ∙ sym (append-assoc (f a) (joined f (counting (a + 1) n)) (f (a + suc n)))

@@ -62,7 +62,7 @@ unfolding squareRoots
 roots-from-cells f w d s sq cells roots e same r =
     r ∙ joined-same (λ n. root (joinOf plainRule f) d (λ p. slot (cellOn w n p) cells)) (λ n. root (joinOf plainRule f) d (lineLeaf f w s sq n)) 0 (2 * w)
     (λ n l. node-same (joinOf plainRule f) (λ p. slot (cellOn w n p) cells) (lineLeaf f w s sq n) d 0
-      (λ p b. same (cellOn w n p) (on-below w n p (omega arith) (omega arith))))
+    (λ p b. same (cellOn w n p) (on-below w n p (omega arith) (omega arith))))
 
 -- the root cut from the tree over values
 pub value-root-cut : (f : List ℕ → List ℕ) → ((m : List ℕ) → length (f m) ≡ digestLen) → (d s : ℕ) (xs tree out top : List ℕ) → d ≤ depthLimit

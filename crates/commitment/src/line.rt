@@ -25,7 +25,14 @@ fn put_line<H: Hash>(square: &[u8], size: usize, width: usize, n: usize, tree: &
     }
 }
 
-fn grow_line<H: Hash>(square: &[u8], size: usize, width: usize, depth: usize, n: usize, tree: &mut [u8])
+fn grow_line<H: Hash>(
+    square: &[u8],
+    size: usize,
+    width: usize,
+    depth: usize,
+    n: usize,
+    tree: &mut [u8],
+)
     requires line { ⌜ size ≤ 512 ⌝ ∗ ⌜ width ≤ 64 ⌝ ∗ ⌜ n < 2 * width ⌝ ∗ ⌜ width ≡ 2 ^ depth ⌝ ∗ ⌜ depth ≤ 6 ⌝ }
     requires room { ⌜ length (now square) ≡ width * width * size ⌝ ∗ ⌜ length (now tree) ≡ treeLen depth ⌝ }
     ensures { λ _. ⌜ now (tree .exit) ≡ treeLayout (joinOf plainRule meaning) depth (lineLeaf meaning width size (now (square .entry)) n) ⌝ }

@@ -31,7 +31,11 @@ pub(crate) fn cell_on(width: usize, n: usize, p: usize) -> usize
     requires { ⌜ width ≤ 64 ⌝ ∗ ⌜ n < 2 * width ⌝ ∗ ⌜ p < width ⌝ }
     ensures { λ r. ⌜ r ≡ cellOn width n p ⌝ }
 {
-    if n < width { n * width + p } else { p * width + (n - width) }
+    if n < width {
+        n * width + p
+    } else {
+        p * width + (n - width)
+    }
 }
 
 // Copies entry `from` of a row of digests to entry `to` of another.

@@ -24,7 +24,13 @@ use layout::size::leaves;
 const TREE_ROOM: usize = 8160;
 
 // Writes the digest of the value with number `from`, of `size` bytes, to entry `to`.
-pub(crate) fn put_leaf<H: Hash>(values: &[u8], size: usize, from: usize, entries: &mut [u8], to: usize)
+pub(crate) fn put_leaf<H: Hash>(
+    values: &[u8],
+    size: usize,
+    from: usize,
+    entries: &mut [u8],
+    to: usize,
+)
     requires value { ⌜ size ≤ partsLimit ⌝ ∗ ⌜ from < 2 ^ 32 ⌝ ∗ ⌜ from * size + size ≤ length (now values) ⌝ }
     requires room { ⌜ digestLen * to + digestLen ≤ length (now entries) ⌝ }
     ensures { λ _. ⌜ now (entries .exit) ≡ over (digestLen * to) (valueLeaf meaning size (now (values .entry)) from) (now (entries .entry)) ⌝ }

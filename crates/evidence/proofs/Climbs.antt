@@ -26,7 +26,7 @@ two-stages f d p e q path v l =
     let back : length (drop (digestLen * d) path) ≡ digestLen * e = simp length-drop (omega arith) in
     climb-by f e q (drop (digestLen * d) path) (climbLeaf f p (take (digestLen * d) path) v) back
     ∙ ap (climb plainRule f (fromLeaf e q (drop (digestLen * d) path)))
-      (climb-by f d p (take (digestLen * d) path) v front ∙ ap (λ ys. climb plainRule f (alone ∷ rungs (sides d p) ys) v) (slots-take d (digestLen * d) path (omega arith)))
+    (climb-by f d p (take (digestLen * d) path) v front ∙ ap (λ ys. climb plainRule f (alone ∷ rungs (sides d p) ys) v) (slots-take d (digestLen * d) path (omega arith)))
     ∙ sym (climb-append plainRule f (fromLeaf d p path) (fromLeaf e q (drop (digestLen * d) path)) v)
 
 -- a climb whose lengths fit
@@ -34,5 +34,5 @@ pub climbed : (f : List ℕ → List ℕ) (p : ℕ) (path path′ v out end : Li
     → end ≡ cond (climbLeafFits (length v) (length path) (length out)) (climbLeaf f p path v) out → end ≡ climbLeaf f p path′ v
 climbed f p path path′ v out end few same whole o e =
     e ∙ cond-true (climbLeafFits (length v) (length path) (length out)) _ _
-        (and-from _ _ (and-from _ _ (le-leb (length v) partsLimit few) (eq-eqb (length path % digestLen) 0 (ap (λ x. length x % digestLen) same ∙ whole))) (eq-eqb (length out) digestLen o))
+    (and-from _ _ (and-from _ _ (le-leb (length v) partsLimit few) (eq-eqb (length path % digestLen) 0 (ap (λ x. length x % digestLen) same ∙ whole))) (eq-eqb (length out) digestLen o))
     ∙ ap (λ x. climbLeaf f p x v) same

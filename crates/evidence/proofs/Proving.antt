@@ -67,5 +67,5 @@ module _ (f : List ℕ → List ℕ) (sized : (m : List ℕ) → length (f m) �
         let inside = mul-add-lt r (width h) c (width h) in-row in-col in
         and-from _ _ (and-from _ _ (lt-ltb r (width h) in-row) (lt-ltb c (width h) in-col))
         (and-from _ _
-          (and-from _ _ (eq-eqb _ (h .s) (share-length (h .s) (cellNumber h r c) (width h * width h) sq long inside)) (eq-eqb _ (pathLen h) path-whole))
-          (same-true _ _ (ends ∙ sym d)))
+        (and-from _ _ (eq-eqb _ (h .s) (share-length (h .s) (cellNumber h r c) (width h * width h) sq long inside)) (eq-eqb _ (pathLen h) path-whole))
+        (same-true _ _ (ends ∙ sym d)))

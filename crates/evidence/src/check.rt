@@ -31,7 +31,14 @@ pub(crate) fn line_number(axis: Axis, width: usize, cell: Cell) -> usize
 }
 
 // Climbs through two trees, by the first `depth` digests of the path and then by the others, and writes the end.
-fn climb_two<H: Hash>(share: &[u8], depth: usize, place: usize, leaf: usize, path: &[u8], end: &mut [u8])
+fn climb_two<H: Hash>(
+    share: &[u8],
+    depth: usize,
+    place: usize,
+    leaf: usize,
+    path: &[u8],
+    end: &mut [u8],
+)
     requires { ⌜ depth ≤ 6 ⌝ ∗ ⌜ length (now share) ≤ partsLimit ⌝ ∗ ⌜ length (now path) ≡ digestLen * (2 * depth + 1) ⌝ ∗ ⌜ length (now end) ≡ digestLen ⌝ }
     ensures { λ _. ⌜ now (end .exit) ≡ climb plainRule meaning (throughTwo depth place (depth + 1) leaf (now (path .entry))) (now (share .entry)) ⌝ }
 {

@@ -17,9 +17,9 @@ ghost use lib.ListN.{length};
 ghost use mathlib.Core.Bool.{true};
 ghost use mathlib.Core.List.{_++_};
 ghost use mathlib.Core.Path.{_≡_};
+use crate::check::line_number;
 use commitment::line::line_tree;
 use commitment::values::value_tree;
-use crate::check::line_number;
 use hash::digest::Hash;
 use hash::limits::DIGEST_LEN;
 use header::cell::Axis;
@@ -67,7 +67,14 @@ fn put_data_path<H: Hash>(roots: &[u8], depth: usize, size: usize, leaf: usize, 
 }
 
 // Writes both paths, one after the other.
-fn put_path<H: Hash>(h: &Header, square: &[u8], roots: &[u8], cell: Cell, axis: Axis, path: &mut [u8])
+fn put_path<H: Hash>(
+    h: &Header,
+    square: &[u8],
+    roots: &[u8],
+    cell: Cell,
+    axis: Axis,
+    path: &mut [u8],
+)
     requires cell { ⌜ cell .row < width (fieldsOf (now h)) ⌝ ∗ ⌜ cell .col < width (fieldsOf (now h)) ⌝ }
     requires room { ⌜ length (now square) ≡ squareLen (fieldsOf (now h)) ⌝ ∗ ⌜ length (now roots) ≡ rootsLen (fieldsOf (now h)) ⌝ ∗ ⌜ length (now path) ≡ pathLen (fieldsOf (now h)) ⌝ }
     ensures { λ _. ⌜ now (path .exit) ≡ evidencePath meaning (fieldsOf (now (h .entry))) (now (square .entry)) (now (roots .entry)) axis (cell .row) (cell .col) ⌝ }
@@ -76,7 +83,15 @@ fn put_path<H: Hash>(h: &Header, square: &[u8], roots: &[u8], cell: Cell, axis: 
     let line = line_number(axis, n.width, cell);
     let place = cell.place(axis) as usize;
     let cut = n.axis_path;
-    put_axis_path::<H>(h, square, n.depth, n.axis_tree, line, place, &mut path[0..cut]);
+    put_axis_path::<H>(
+        h,
+        square,
+        n.depth,
+        n.axis_tree,
+        line,
+        place,
+        &mut path[0..cut],
+    );
     put_data_path::<H>(roots, n.depth + 1, n.data_tree, line, &mut path[cut..]);
 }
 

@@ -23,8 +23,8 @@ on-column w n p l = cond-false (ltb n w) _ _ (le-ltb n w l)
 pub on-below : (w n p : ℕ) → n < 2 * w → p < w → cellOn w n p < w * w
 on-below w n p l h =
     elim (cases-lt n w) [
-      inl a ↦ omega (arith, on-row w n p a, mul-add-lt n w p w a h)
-    | inr a ↦ omega (arith, on-column w n p a, mul-add-lt p w (n - w) w h (omega arith))
+      | inl a ↦ omega (arith, on-row w n p a, mul-add-lt n w p w a h)
+      | inr a ↦ omega (arith, on-column w n p a, mul-add-lt p w (n - w) w h (omega arith))
     ]
 
 -- ---- the lines of a cell

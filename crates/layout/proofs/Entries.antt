@@ -21,9 +21,9 @@ pub entries-more : (g : ℕ → Node) (i : ℕ) (xs ys : List ℕ) → ys ≡ ov
 entries-more g i xs ys e size within before j l =
     ap (slot j) e
     ∙ elim (cases-eq j i) [
-        inl s ↦ ap (λ k. slot k (over (digestLen * i) (g i) xs)) s ∙ entry-here i (g i) xs size within ∙ ap g (sym s)
+      | inl s ↦ ap (λ k. slot k (over (digestLen * i) (g i) xs)) s ∙ entry-here i (g i) xs size within ∙ ap g (sym s)
       | inr n ↦ entry-before i (g i) xs size within j (omega arith) ∙ before j (omega arith)
-      ]
+    ]
 
 -- all entries
 pub entries-all : (g : ℕ → Node) (a n : ℕ) (xs : List ℕ) → length xs ≡ digestLen * n → ((j : ℕ) → j < n → slot j xs ≡ g (a + j)) → xs ≡ joined g (counting a n)
@@ -33,7 +33,7 @@ entries-all g a (suc n) xs l h =
     sym (take-append-drop digestLen xs)
     ∙ ap (λ ys. ys ++ drop digestLen xs) (h 0 (omega arith) ∙ ap g (omega arith))
     ∙ ap (λ ys. g a ++ ys)
-      (entries-all g (a + 1) n (drop digestLen xs) long (λ j b. slot-drop j 1 xs ∙ h (1 + j) (omega arith) ∙ ap g (omega arith)))
+    (entries-all g (a + 1) n (drop digestLen xs) long (λ j b. slot-drop j 1 xs ∙ h (1 + j) (omega arith) ∙ ap g (omega arith)))
 
 -- an entry of what is joined
 pub entries-at : (g : ℕ → Node) (a n : ℕ) → ((i : ℕ) → length (g i) ≡ digestLen) → (j : ℕ) → j < n → slot j (joined g (counting a n)) ≡ g (a + j)

@@ -32,9 +32,9 @@ module _ (join : Node → Node → Node) (leaf leaf′ : ℕ → Node) where
       let n : 2 ^ (h + 1 + k) ≡ 2 ^ (h + suc k) = ap (λ i. 2 ^ i) (omega arith) in
       ap (λ x. x ++ levelsFrom join leaf (h + 1) k)
       (joined-same (node join leaf h) (node join leaf′ h) 0 (2 ^ suc k) (λ i l.
-        node-same join leaf leaf′ h i (λ j b.
-          let q : 2 ^ h * (i + 1) ≤ 2 ^ h * 2 ^ suc k = mul-le-mul-left (2 ^ h) (omega arith) in
-          e j (omega arith))))
+      node-same join leaf leaf′ h i (λ j b.
+      let q : 2 ^ h * (i + 1) ≤ 2 ^ h * 2 ^ suc k = mul-le-mul-left (2 ^ h) (omega arith) in
+      e j (omega arith))))
       ∙ ap (λ x. joined (node join leaf′ h) (counting 0 (2 ^ suc k)) ++ x) (levels-same k (h + 1) (λ j l. e j (omega arith)))
 
   pub layout-same : (d : ℕ) → ((j : ℕ) → j < 2 ^ d → leaf j ≡ leaf′ j) → treeLayout join d leaf ≡ treeLayout join d leaf′

@@ -48,8 +48,8 @@ module _ (f : List ℕ → List ℕ) (sized : (m : List ℕ) → length (f m) �
   rooted sq long axis i l =
       roots-at f sized (width h) (depth h) (h .s) sq (lineNumber h axis i) (line-below axis (width h) i l)
       ∙ node-same (joinOf plainRule f) (lineLeaf f (width h) (h .s) sq (lineNumber h axis i)) (valueLeaf f (h .s) (lineShares (h .k) (h .s) axis i sq)) (depth h) 0
-        (λ p b. ap (leafOf plainRule f)
-          (ap (λ n. share (h .s) n sq) (line-cell axis (width h) i p l) ∙ sym (line-share (h .k) (h .s) axis i sq p long l (omega (arith, depth-power (h .k) wide)))))
+      (λ p b. ap (leafOf plainRule f)
+      (ap (λ n. share (h .s) n sq) (line-cell axis (width h) i p l) ∙ sym (line-share (h .k) (h .s) axis i sq p long l (omega (arith, depth-power (h .k) wide)))))
 
   module _ (T : Table) (first : FirstLaw T) (second : SecondLaw T) (d : List ℕ) (bytes : (n : ℕ) → getD d n 0 < 256)
       (size : okSize (h .s) ≡ true) (long : length d ≡ dataLen h) where

@@ -21,5 +21,5 @@ unreachable-requires g c κs =
     let d = ap (λ l. l .depth) (c .lengths-depth .ensures) in
     c .in-rest .not-Some _
     (c .value-root .ensures
-      ∙ cond-true (rootFits (c .lengths-depth .result .depth + 1) digestLen (length (c .square-roots .last .roots))) _ _
-        (roots-fit f (c .lengths-depth .result .depth) (length (c .square-roots .last .roots)) (h .width) d (c .square-roots .kept .roots ∙ eqb-true n (rootsLen f) (fits .1))))
+    ∙ cond-true (rootFits (c .lengths-depth .result .depth + 1) digestLen (length (c .square-roots .last .roots))) _ _
+    (roots-fit f (c .lengths-depth .result .depth) (length (c .square-roots .last .roots)) (h .width) d (c .square-roots .kept .roots ∙ eqb-true n (rootsLen f) (fits .1))))

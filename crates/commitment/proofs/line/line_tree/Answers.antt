@@ -31,12 +31,12 @@ returns g c =
     let n = c .args .n in
     let sq = c .args .square .now in
     let fits : lineFits h n (length sq) (length (c .args .tree .now)) ≡ true =
-        and-from _ _ (lt-ltb n (lineCount h) (omega (arith, ap (λ l. l .lines) e)))
-        (and-from _ _ (eq-eqb (length sq) (squareLen h) (omega (arith, ap (λ l. l .square) e))) (eq-eqb (length (c .args .tree .now)) (axisTreeLen h) (omega (arith, ap (λ l. l .«axis_tree») e)))) in
+    and-from _ _ (lt-ltb n (lineCount h) (omega (arith, ap (λ l. l .lines) e)))
+    (and-from _ _ (eq-eqb (length sq) (squareLen h) (omega (arith, ap (λ l. l .square) e))) (eq-eqb (length (c .args .tree .now)) (axisTreeLen h) (omega (arith, ap (λ l. l .«axis_tree») e)))) in
     record {
       answer = sym fits;
       written =
-        c .grow-line .ensures
-        ∙ ap (λ l. treeLayout (joinOf plainRule f) (l .depth) (lineLeaf f (l .width) (l .share) sq n)) e
-        ∙ sym (cond-true (lineFits h n (length sq) (length (c .args .tree .now))) _ _ fits);
+          c .grow-line .ensures
+          ∙ ap (λ l. treeLayout (joinOf plainRule f) (l .depth) (lineLeaf f (l .width) (l .share) sq n)) e
+          ∙ sym (cond-true (lineFits h n (length sq) (length (c .args .tree .now))) _ _ fits);
     }

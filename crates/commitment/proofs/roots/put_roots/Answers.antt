@@ -19,8 +19,8 @@ loop-n-again g c =
     let leaf : ℕ → ℕ → Node = λ n p. slot (cellOn (c .args .width) n p) (c .args .cells .now) in
     entries-more (λ n. root (joinOf plainRule f) (c .args .depth) (leaf n)) (c .loop-n .n) (c .loop-n .roots) _ (c .put-root .ensures)
     (root-sized f (g .H·Hash·met .sized) (leaf (c .loop-n .n)) (c .args .depth)
-      (slot-length (cellOn (c .args .width) (c .loop-n .n) 0) (c .args .cells .now)
-        (omega (arith, on-below (c .args .width) (c .loop-n .n) 0 (c .loop-n-test .taken) (omega (arith, pow-pos (c .args .depth)))))))
+    (slot-length (cellOn (c .args .width) (c .loop-n .n) 0) (c .args .cells .now)
+    (omega (arith, on-below (c .args .width) (c .loop-n .n) 0 (c .loop-n-test .taken) (omega (arith, pow-pos (c .args .depth)))))))
     (omega arith) (c .loop-n .inv)
 
 pub returns : need.returns

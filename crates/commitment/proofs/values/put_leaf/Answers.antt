@@ -20,5 +20,5 @@ returns g c =
     let read : take (i * s + s - i * s) (drop (i * s) values) ≡ share s i values = share-read s i values in
     let few : length (take (i * s + s - i * s) (drop (i * s) values)) ≤ partsLimit = simp (length-take, length-drop) (omega arith) in
     let made : c .leaf-digest .last .out ≡ leafOf plainRule f (share s i values) =
-        c .leaf-digest .ensures .written ∙ out-ok (length (take (i * s + s - i * s) (drop (i * s) values))) _ _ few refl ∙ ap (leafOf plainRule f) read in
+    c .leaf-digest .ensures .written ∙ out-ok (length (take (i * s + s - i * s) (drop (i * s) values))) _ _ few refl ∙ ap (leafOf plainRule f) read in
     written-entry (c .args .to) _ _ (c .args .entries .now) _ (c .splice .ensures .written) made (ap length made ∙ g .H·Hash·met .sized _) (omega arith)

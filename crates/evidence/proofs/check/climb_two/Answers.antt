@@ -18,6 +18,6 @@ returns g c =
     let front : length (take (digestLen * d) path) ≡ digestLen * d = length-take-le (digestLen * d) path (omega arith) in
     let back : length (drop (digestLen * d) path) ≡ digestLen * (d + 1) = simp length-drop (omega arith) in
     let first : c .climb-leaf .last .out ≡ climbLeaf f (c .args .place) (take (digestLen * d) path) share =
-        climbed f (c .args .place) _ (take (digestLen * d) path) share (replicate 32 0) _ (c .pre .1 .0) (ap (λ n. take n path) (sub-zero (digestLen * d))) (omega arith) refl (c .climb-leaf .ensures .written) in
+    climbed f (c .args .place) _ (take (digestLen * d) path) share (replicate 32 0) _ (c .pre .1 .0) (ap (λ n. take n path) (sub-zero (digestLen * d))) (omega arith) refl (c .climb-leaf .ensures .written) in
     let second = climbed f (c .args .leaf) _ (drop (digestLen * d) path) (c .climb-leaf .last .out) (c .args .end .now) _ (omega (arith, c .climb-leaf .kept .out)) (take-rest path (digestLen * d)) (omega arith) (c .pre .1 .1 .1) (c .climb-leaf-2 .ensures .written) in
     second ∙ ap (climbLeaf f (c .args .leaf) (drop (digestLen * d) path)) first ∙ two-stages f d (c .args .place) (d + 1) (c .args .leaf) path share (omega arith)

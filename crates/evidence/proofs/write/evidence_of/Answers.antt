@@ -26,7 +26,7 @@ returns g c =
       answer = search needs;
       written = search needs;
       proves = λ ok own root.
-        ap (verifies f h r col axis (cellShare h sq r col)) (c .put-path .ensures)
-        ∙ own-verifies f (g .H·Hash·met .sized) h (c .args .h .now .width) sq roots axis r col (ltb-true r (width h) (inside .0)) (ltb-true col (width h) (inside .1)) own
+          ap (verifies f h r col axis (cellShare h sq r col)) (c .put-path .ensures)
+          ∙ own-verifies f (g .H·Hash·met .sized) h (c .args .h .now .width) sq roots axis r col (ltb-true r (width h) (inside .0)) (ltb-true col (width h) (inside .1)) own
           (eqb-true (length sq) (squareLen h) (lengths .0)) root;
     }

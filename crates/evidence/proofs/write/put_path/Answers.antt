@@ -71,10 +71,10 @@ returns g c =
     let front : length a ≡ n .«axis_path» = c .put-axis-path .kept .out ∙ simp length-take (omega arith) in
     let behind : length rest ≤ length (a ++ rest) - n .«axis_path» = omega (arith, length-append a rest) in
     let line : c .line-number-line .result ≡ lineNumber (fieldsOf h) (c .args .axis) (lineOf (c .args .axis) (c .args .cell .row) (c .args .cell .col)) =
-        c .line-number-line .ensures ∙ ap (λ l. lineNumberIn (l .width) (c .args .axis) (lineOf (c .args .axis) (c .args .cell .row) (c .args .cell .col))) e in
+    c .line-number-line .ensures ∙ ap (λ l. lineNumberIn (l .width) (c .args .axis) (lineOf (c .args .axis) (c .args .cell .row) (c .args .cell .col))) e in
     two-parts a b rest (n .«axis_path») (length (a ++ rest) - n .«axis_path») front behind
     ∙ ap (λ x. x ++ b) (c .put-axis-path .ensures ∙ ap (λ p. pathOf (depth (fieldsOf h)) p (lineTree f (fieldsOf h) sq (c .line-number-line .result))) (c .place-place .ensures)
-        ∙ ap (λ i. pathOf (depth (fieldsOf h)) (placeOn (c .args .axis) (c .args .cell .row) (c .args .cell .col)) (lineTree f (fieldsOf h) sq i)) line)
+    ∙ ap (λ i. pathOf (depth (fieldsOf h)) (placeOn (c .args .axis) (c .args .cell .row) (c .args .cell .col)) (lineTree f (fieldsOf h) sq i)) line)
     ∙ ap (λ x. pathOf (depth (fieldsOf h)) (placeOn (c .args .axis) (c .args .cell .row) (c .args .cell .col)) (lineTree f (fieldsOf h) sq (lineNumber (fieldsOf h) (c .args .axis) (lineOf (c .args .axis) (c .args .cell .row) (c .args .cell .col)))) ++ x)
-      (c .put-data-path .ensures ∙ ap (λ i. pathOf (n .depth + 1) i (valueTree f (n .depth + 1) digestLen roots)) line
-        ∙ ap (λ l. pathOf (l .depth + 1) (lineNumber (fieldsOf h) (c .args .axis) (lineOf (c .args .axis) (c .args .cell .row) (c .args .cell .col))) (valueTree f (l .depth + 1) digestLen roots)) e)
+    (c .put-data-path .ensures ∙ ap (λ i. pathOf (n .depth + 1) i (valueTree f (n .depth + 1) digestLen roots)) line
+    ∙ ap (λ l. pathOf (l .depth + 1) (lineNumber (fieldsOf h) (c .args .axis) (lineOf (c .args .axis) (c .args .cell .row) (c .args .cell .col))) (valueTree f (l .depth + 1) digestLen roots)) e)

@@ -52,16 +52,16 @@ returns g c =
     let fits : extendFits b (length d) n m ≡ true = sym (c .if-not-lengths-fit .ensures tt ∙ ap (λ x. extendFits x (length d) n m) (h .same)) in
     let sq-is : c .fill .last .square ≡ ext = c .fill .ensures .filled ∙ cond-true (fillFits (c .args .k) (c .args .s) (length d) n) _ _ (fill-granted f b (h .wide) (h .sized) (length d) n m fits) in
     let room : squareFits b (length ext) m ≡ true =
-        ap (λ x. squareFits b x m) (sym (ap length sq-is) ∙ c .fill .kept .square) ∙ and-parts (eqb (length d) (dataLen b)) (squareFits b n m) fits .1 in
+    ap (λ x. squareFits b x m) (sym (ap length sq-is) ∙ c .fill .kept .square) ∙ and-parts (eqb (length d) (dataLen b)) (squareFits b n m) fits .1 in
     let E = extend-granted f b (h .wide) (h .sized) T d n m fits in
     let C = commit-granted f b (h .wide) (h .sized) ext m room in
     record {
       answer = c .commit .ensures .answer ∙ ap (λ x. commitOutcome f b x m) sq-is ∙ C ∙ sym E;
       square = sq-is ∙ sym (ap (λ o. written o ext (c .args .square .now)) E);
       roots =
-        c .commit .ensures .written
-        ∙ ap (λ x. written (commitOutcome f b x m) (rootsOf f b x) (c .args .roots .now)) sq-is
-        ∙ ap (λ o. written o (rootsOf f b ext) (c .args .roots .now)) C
-        ∙ sym (ap (λ o. written o (rootsOf f b ext) (c .args .roots .now)) E);
+          c .commit .ensures .written
+          ∙ ap (λ x. written (commitOutcome f b x m) (rootsOf f b x) (c .args .roots .now)) sq-is
+          ∙ ap (λ o. written o (rootsOf f b ext) (c .args .roots .now)) C
+          ∙ sym (ap (λ o. written o (rootsOf f b ext) (c .args .roots .now)) E);
       stands = λ w z l. stand f (g .H·Hash·met .sized) b w T (g .C·Code·met .first) (g .C·Code·met .second) d (λ n. omega (arith, c .typed .shares n)) z l;
     }
