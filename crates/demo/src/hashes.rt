@@ -1,4 +1,5 @@
 // The leaf digests of a block's shares, by both hashes.
+use crate::text::hex;
 use hash::digest::Hash;
 use hash::limits::DIGEST_LEN;
 use hash::refusal::DigestRefusalError;
@@ -6,22 +7,11 @@ use sha3::digest::Sha3;
 use sha3::digest::Sha3Hash;
 use sha256::digest::Sha256;
 use sha256::digest::Sha256Hash;
-use std::alloc::AllocError;
 use std::alloc::Global;
 use std::error::AnyError;
 
 // A block of two by two shares of eight bytes.
 const SHARES: [&str; 4] = ["share 00", "share 01", "share 10", "share 11"];
-
-// The bytes in hexadecimal.
-fn hex(heap: Global, bytes: &[u8]) -> Result<String, AllocError> {
-    let mut text = String::new(heap);
-    for b in bytes {
-        let digits = format!(heap, "{b:02x}")?;
-        text.push_str(digits.as_str())?;
-    }
-    Ok(text)
-}
 
 // The digest of a share as a leaf of a tree: lead byte 0 and the share.
 fn leaf<H: Hash>(heap: Global, share: &[u8]) -> Result<String, AnyError> {

@@ -1,4 +1,5 @@
 // Digests of messages in parts, and of whole messages.
+use crate::lines::Lines;
 use crate::text::number;
 use crate::text::unhex;
 use crate::text::word;
@@ -74,28 +75,18 @@ fn whole(heap: Global, words: &mut SplitWhitespace<'_>) -> Result<[u8; DIGEST_LE
     whole_digest(kind, message.as_slice())
 }
 
-fn agrees(heap: Global, line: &str) -> Result<bool, AnyError> {
-    let mut words = line.split_whitespace();
-    let ours = match word(&mut words)? {
-        "digest" => in_parts(heap, &mut words)?,
-        "message" => whole(heap, &mut words)?,
-        _ => return Err("a line has an unknown word".into()),
-    };
-    let theirs = unhex(heap, word(&mut words)?)?;
-    Ok(theirs.as_slice() == &ours)
-}
+// The lines of `digests.txt`.
+pub struct Digests;
 
-// Compares every line, and answers how many there are.
-pub fn compare(heap: Global, lines: &str) -> Result<usize, AnyError> {
-    let mut count = 0usize;
-    for line in lines.lines() {
-        if line.starts_with("#") {
-            continue;
-        }
-        if !agrees(heap, line)? {
-            return Err(format!(heap, "differs: {line}")?.into());
-        }
-        count = count.saturating_add(1);
+pub impl Lines for Digests as DigestLines {
+    fn agrees(heap: Global, line: &str) -> Result<bool, AnyError> {
+        let mut words = line.split_whitespace();
+        let ours = match word(&mut words)? {
+            "digest" => in_parts(heap, &mut words)?,
+            "message" => whole(heap, &mut words)?,
+            _ => return Err("a line has an unknown word".into()),
+        };
+        let theirs = unhex(heap, word(&mut words)?)?;
+        Ok(theirs.as_slice() == &ours)
     }
-    Ok(count)
 }
