@@ -53,17 +53,6 @@ unfolding node
 root-sized f sized leaf zero first = first
 root-sized f sized leaf (suc d) first = sized _
 
--- the roots from the leaf digests of all cells are those of the square
-pub roots-from-cells : (f : List ℕ → List ℕ) (w d s : ℕ) (sq cells roots : List ℕ) → w ≡ 2 ^ d
-    → ((j : ℕ) → j < w * w → slot j cells ≡ valueLeaf f s sq j)
-    → roots ≡ joined (λ n. root (joinOf plainRule f) d (λ p. slot (cellOn w n p) cells)) (counting 0 (2 * w))
-    → roots ≡ squareRoots f w d s sq
-unfolding squareRoots
-roots-from-cells f w d s sq cells roots e same r =
-    r ∙ joined-same (λ n. root (joinOf plainRule f) d (λ p. slot (cellOn w n p) cells)) (λ n. root (joinOf plainRule f) d (lineLeaf f w s sq n)) 0 (2 * w)
-    (λ n l. node-same (joinOf plainRule f) (λ p. slot (cellOn w n p) cells) (lineLeaf f w s sq n) d 0
-    (λ p b. same (cellOn w n p) (on-below w n p (omega arith) (omega arith))))
-
 -- the root cut from the tree over values
 pub value-root-cut : (f : List ℕ → List ℕ) → ((m : List ℕ) → length (f m) ≡ digestLen) → (d s : ℕ) (xs tree out top : List ℕ) → d ≤ depthLimit
     → tree ≡ valueTree f d s xs → length out ≡ digestLen → top ≡ cutRoot d tree out → top ≡ valueRoot f d s xs

@@ -25,7 +25,8 @@ fn put_line<H: Hash>(square: &[u8], size: usize, width: usize, n: usize, tree: &
     }
 }
 
-fn grow_line<H: Hash>(
+// Lays out the tree of line n.
+pub(crate) fn grow_line<H: Hash>(
     square: &[u8],
     size: usize,
     width: usize,

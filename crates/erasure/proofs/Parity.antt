@@ -9,12 +9,12 @@ use native.Mathlib.Omega.{arith}
 use borrow.Rule.Slice.PartMut.{putMid}
 use lib.Dec.{eqb, leb, ltb, lit<}
 use lib.ListN.{length, getD, take, drop, length-take, length-drop, length-append}
-use Rattle.std.proofs.shelf.Bits.{div-mul-add}
+use Rattle.std.proofs.shelf.Bits.{div-mul-add, mod-mul-add, mul-le}
 use Rattle.std.proofs.shelf.Lists.{take-append-drop, take-at, getD-take}
 use Rattle.std.proofs.shelf.Tests.{and-parts, and-from, eqb-true, eq-eqb, ne-eqb, leb-true, le-leb, lt-ltb, le-ltb, cases-eq, cases-lt, cond-true, cond-false}
 use Rattle.bytes.specs.Shares.{share, byteOf}
 use Rattle.bytes.proofs.Shares.{same-from-bytes, byte-take, share-read, share-length, share-byte}
-use Rattle.bytes.proofs.Cells.{both-halves, byte-drop, cell-below, put-rest}
+use Rattle.bytes.proofs.Cells.{both-halves, byte-drop, byte-cell, by-cells, cell-below, put-rest}
 use Rattle.codes.specs.Code.{Table, Weight, Places, FirstLaw, WeightLaw, Meets, applied, symbol}
 use Rattle.codes.specs.Words.{at, codeword}
 use Rattle.codes.proofs.Words.{applied-row, applied-data, applied-low, codeword-length, codeword-from-bytes, codeword-byte, codeword-front}
@@ -130,23 +130,63 @@ encoded T first k s w xs front tail rest long behind small e r =
 -- ---- completion in place
 
 -- what it takes to complete a codeword
-pub record CompleteFits (k size n : ℕ) : Type 0 where
+pub record CompleteFits (k w s n : ℕ) : Type 0 where
   pub wide : okWidth k ≡ true
-  pub sized : size ≤ 32768
-  pub long : n ≡ 2 * k * size
+  pub some : 1 ≤ w
+  pub few : w ≤ 64
+  pub sized : s ≤ 512
+  pub long : n ≡ 2 * k * (w * s)
 
-pub complete-parts : (k size n : ℕ) → completeFits k size n ≡ true → CompleteFits k size n
+pub complete-parts : (k w s n : ℕ) → completeFits k w s n ≡ true → CompleteFits k w s n
 unfolding completeFits
-complete-parts k size n h =
-    let a = and-parts (okWidth k) (leb size 32768 && eqb n (2 * k * size)) h in
-    let b = and-parts (leb size 32768) (eqb n (2 * k * size)) (a .1) in
-    record { wide = a .0; sized = leb-true size 32768 (b .0); long = eqb-true n (2 * k * size) (b .1) }
+complete-parts k w s n h =
+    let a = and-parts (okWidth k) (leb 1 w && (leb w 64 && (leb s 512 && eqb n (2 * k * (w * s))))) h in
+    let b = and-parts (leb 1 w) (leb w 64 && (leb s 512 && eqb n (2 * k * (w * s)))) (a .1) in
+    let c = and-parts (leb w 64) (leb s 512 && eqb n (2 * k * (w * s))) (b .1) in
+    let d = and-parts (leb s 512) (eqb n (2 * k * (w * s))) (c .1) in
+    record { wide = a .0; some = leb-true 1 w (b .0); few = leb-true w 64 (c .0); sized = leb-true s 512 (d .0); long = eqb-true n (2 * k * (w * s)) (d .1) }
 
-pub complete-fits : (k size n : ℕ) → okWidth k ≡ true → size ≤ 32768 → n ≡ 2 * k * size → completeFits k size n ≡ true
+pub complete-fits : (k w s n : ℕ) → okWidth k ≡ true → 1 ≤ w → w ≤ 64 → s ≤ 512 → n ≡ 2 * k * (w * s) → completeFits k w s n ≡ true
 unfolding completeFits
-complete-fits k size n w l e =
-    and-from (okWidth k) (leb size 32768 && eqb n (2 * k * size)) w
-    (and-from (leb size 32768) (eqb n (2 * k * size)) (le-leb size 32768 l) (eq-eqb n (2 * k * size) e))
+complete-fits k w s n wide some few sized e =
+    and-from (okWidth k) (leb 1 w && (leb w 64 && (leb s 512 && eqb n (2 * k * (w * s))))) wide
+    (and-from (leb 1 w) (leb w 64 && (leb s 512 && eqb n (2 * k * (w * s)))) (le-leb 1 w some)
+    (and-from (leb w 64) (leb s 512 && eqb n (2 * k * (w * s))) (le-leb w 64 few)
+    (and-from (leb s 512) (eqb n (2 * k * (w * s))) (le-leb s 512 sized) (eq-eqb n (2 * k * (w * s)) e))))
+
+-- the same by cells, shares being of w cells of s bytes: what is said of each cell's bytes, said of each share's
+pub by-share-bytes : (k w s : ℕ) (R : ℕ → ℕ → ℕ) (old new : List ℕ) → length new ≡ 2 * k * (w * s)
+    → ((m : ℕ) → m < 2 * k * w → (b : ℕ) → b < s
+    → byteOf s m b new ≡ cond (ltb m (k * w)) (byteOf s m b old) (applied k (R (m / w)) (λ j. byteOf s (j * w + m % w) b old)))
+    → (i : ℕ) → i < 2 * k → (x : ℕ) → x < w * s
+    → byteOf (w * s) i x new ≡ cond (ltb i k) (byteOf (w * s) i x old) (applied k (R i) (λ j. byteOf (w * s) j x old))
+by-share-bytes k w s R old new long h i hi =
+    by-cells w s (λ x. byteOf (w * s) i x new ≡ cond (ltb i k) (byteOf (w * s) i x old) (applied k (R i) (λ j. byteOf (w * s) j x old))) at
+  where
+    at : (c b : ℕ) → c < w → b < s
+        → byteOf (w * s) i (c * s + b) new
+        ≡ cond (ltb i k) (byteOf (w * s) i (c * s + b) old) (applied k (R i) (λ j. byteOf (w * s) j (c * s + b) old))
+    at c b hc hb =
+        let here : byteOf (w * s) i (c * s + b) new
+        ≡ cond (ltb (i * w + c) (k * w)) (byteOf s (i * w + c) b old) (applied k (R ((i * w + c) / w)) (λ j. byteOf s (j * w + (i * w + c) % w) b old)) =
+        byte-cell w s i c b new ∙ h (i * w + c) (cell-below (2 * k) w i c hi hc) b hb in
+        elim (cases-lt i k) [
+          | inl l ↦
+              here
+              ∙ cond-true (ltb (i * w + c) (k * w)) (byteOf s (i * w + c) b old)
+              (applied k (R ((i * w + c) / w)) (λ j. byteOf s (j * w + (i * w + c) % w) b old)) (lt-ltb (i * w + c) (k * w) (cell-below k w i c l hc))
+              ∙ sym (byte-cell w s i c b old)
+              ∙ sym (cond-true (ltb i k) (byteOf (w * s) i (c * s + b) old) (applied k (R i) (λ j. byteOf (w * s) j (c * s + b) old)) (lt-ltb i k l))
+          | inr l ↦
+              here
+              ∙ cond-false (ltb (i * w + c) (k * w)) (byteOf s (i * w + c) b old)
+              (applied k (R ((i * w + c) / w)) (λ j. byteOf s (j * w + (i * w + c) % w) b old))
+              (le-ltb (i * w + c) (k * w) (let t : k * w ≤ i * w = mul-le k w i w l (omega arith) in omega arith))
+              ∙ ap (λ (r : ℕ). applied k (R r) (λ j. byteOf s (j * w + (i * w + c) % w) b old)) (div-mul-add i w c hc)
+              ∙ applied-data k (R i) (λ j. byteOf s (j * w + (i * w + c) % w) b old) (λ j. byteOf (w * s) j (c * s + b) old)
+              (λ j hj. ap (λ (r : ℕ). byteOf s (j * w + r) b old) (mod-mul-add i w c hc) ∙ sym (byte-cell w s j c b old))
+              ∙ sym (cond-false (ltb i k) (byteOf (w * s) i (c * s + b) old) (applied k (R i) (λ j. byteOf (w * s) j (c * s + b) old)) (le-ltb i k l))
+        ]
 
 -- the data as they were, and the shares behind them by the rows of the code
 pub completed : (T : Table) → FirstLaw T → (k s : ℕ) → k ≤ 128 → (R : ℕ → ℕ → ℕ) (old new : List ℕ) → length new ≡ 2 * k * s → ((n : ℕ) → getD new n 0 < 256)

@@ -22,9 +22,9 @@ fitting k s n m = eqb n (k * s) && eqb m (2 * k * s)
 unfoldable pub parityFits : ℕ → ℕ → ℕ → ℕ → Bool
 parityFits k size n m = okWidth k && (eqb n (k * size) && eqb m (k * size))
 
--- k and the size are such that a codeword can be completed in place, and a buffer of n bytes holds 2k shares
-unfoldable pub completeFits : ℕ → ℕ → ℕ → Bool
-completeFits k size n = okWidth k && (leb size 32768 && eqb n (2 * k * size))
+-- k is allowed, a share is of 1 to 64 cells of at most 512 bytes, and a buffer of n bytes holds 2k shares of w cells of s bytes
+unfoldable pub completeFits : ℕ → ℕ → ℕ → ℕ → Bool
+completeFits k w s n = okWidth k && (leb 1 w && (leb w 64 && (leb s 512 && eqb n (2 * k * (w * s)))))
 
 -- from k, s and the lengths of the data and of the target
 unfoldable pub encodeOutcome : ℕ → ℕ → ℕ → ℕ → Result (Unit {0}) Refused

@@ -20,7 +20,7 @@ use Rattle.erasure.specs.Limits.{okWidth, okSize}
 use Rattle.erasure.specs.Calls.{encodeOutcome, completeFits}
 use Rattle.erasure.proofs.Recovers.{encode-fine}
 use Rattle.erasure.proofs.Parity.{complete-fits}
-use Rattle.erasure.proofs.Bounds.{width-most, size-most}
+use Rattle.erasure.proofs.Bounds.{width-most, width-some, size-most}
 use Rattle.extension.specs.Square.{cellByte, extension, fillFits}
 use Rattle.extension.proofs.Squares.{extension-from-bytes}
 
@@ -102,9 +102,9 @@ encoded-row T k s row old new wide sized lr lo e =
 
 -- what the completion of a square of rows leaves in it
 pub columns-filled : (T : Table) (k s : ℕ) (old new : List ℕ) → okWidth k ≡ true → okSize s ≡ true → length old ≡ 2 * k * (2 * k * s)
-    → new ≡ cond (completeFits k (2 * k * s) (length old)) (codeword T k (2 * k * s) (take (k * (2 * k * s)) old)) old
+    → new ≡ cond (completeFits k (2 * k) s (length old)) (codeword T k (2 * k * s) (take (k * (2 * k * s)) old)) old
     → new ≡ codeword T k (2 * k * s) (take (k * (2 * k * s)) old)
 columns-filled T k s old new wide sized long e =
     e
-    ∙ cond-true (completeFits k (2 * k * s) (length old)) (codeword T k (2 * k * s) (take (k * (2 * k * s)) old)) old
-    (complete-fits k (2 * k * s) (length old) wide (small k s wide sized .line) long)
+    ∙ cond-true (completeFits k (2 * k) s (length old)) (codeword T k (2 * k * s) (take (k * (2 * k * s)) old)) old
+    (complete-fits k (2 * k) s (length old) wide (omega (arith, width-some k wide)) (omega (arith, width-most k wide)) (size-most s sized) long)

@@ -33,10 +33,10 @@ fn fill_rows<C: Code>(k: usize, s: usize, shares: &[u8], square: &mut [u8])
 
 // Extends all columns at once: the first k rows are k shares of a code whose shares are rows, and the others complete the codeword.
 fn fill_columns<C: Code>(k: usize, s: usize, square: &mut [u8])
-    requires { ⌜ k < 33 ⌝ ∗ ⌜ s < 513 ⌝ }
-    ensures { λ _. ⌜ now (square .exit) ≡ cond (completeFits k (2 * k * s) (length (now (square .entry)))) (codeword (C·Code .table) k (2 * k * s) (take (k * (2 * k * s)) (now (square .entry)))) (now (square .entry)) ⌝ }
+    requires { ⌜ k < 33 ⌝ }
+    ensures { λ _. ⌜ now (square .exit) ≡ cond (completeFits k (2 * k) s (length (now (square .entry)))) (codeword (C·Code .table) k (2 * k * s) (take (k * (2 * k * s)) (now (square .entry)))) (now (square .entry)) ⌝ }
 {
-    complete::<C>(k, 2 * k * s, square);
+    complete::<C>(k, 2 * k, s, square);
 }
 
 // Fills the square of k by k shares of s bytes each, the data. It answers whether k, s and the lengths are right; if not, the square is

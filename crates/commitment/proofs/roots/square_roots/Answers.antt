@@ -4,11 +4,11 @@ use Rattle.header.specs.Fields.{fieldsOf}
 use Rattle.header.proofs.Measures.{measured}
 use Rattle.commitment.proofs.roots.square_roots.Needs as need
 
-pub put-square-roots-requires : need.put-square-roots-requires
-put-square-roots-requires g c κs =
+pub put-roots-requires : need.put-roots-requires
+put-roots-requires g c κs =
     let h = c .args .h .now in
     let m = measured (fieldsOf h) (c .lengths-n .result) (h .width) (h .size) (c .lengths-n .ensures) in
     record {
-      shape = (m .power, (m .wide, (m .deep, m .sized)));
-      room = (omega arith, (omega (arith, m .few), omega arith));
+      line = (m .sized, (m .wide, (m .power, m .deep)));
+      room = (omega arith, omega arith);
     }

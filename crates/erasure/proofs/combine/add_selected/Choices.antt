@@ -1,7 +1,7 @@
-use Prim.Native.Nat.{ℕ, _/_, _%_, _^_, _<_}
+use Prim.Native.Nat.{ℕ, _/_, _%_, _^_, _<_, _+_}
 use mathlib.Core.Path.{_≡_}
 use lib.Bits.{bitXor}
-use lib.ListN.{getD}
+use lib.ListN.{getD, length}
 use Rattle.bytes.specs.Shares.{byteOf}
 use Rattle.codes.specs.Code.{applied}
 use Rattle.codes.specs.Words.{at}
@@ -9,5 +9,5 @@ use Rattle.erasure.proofs.combine.add_selected.Given as given
 
 abbrev pub Inv-loop-j : given.InvT-loop-j
 Inv-loop-j l =
-    (b : ℕ) → b < l .s
-    → getD (l .sum) b 0 ≡ bitXor (getD (l .entry .sum) b 0) (applied (l .j) (λ j. at (l .row) j / 2 ^ l .bit % 2) (λ j. byteOf (l .s) j b (l .shares)))
+    (b : ℕ) → b < length (l .entry .sum)
+    → getD (l .sum) b 0 ≡ bitXor (getD (l .entry .sum) b 0) (applied (l .j) (λ j. at (l .row) j / 2 ^ l .bit % 2) (λ j. byteOf (l .size) j (l .from + b) (l .shares)))

@@ -1,11 +1,12 @@
 use mathlib.Core.List.{List}
-use mathlib.Core.Path.{_≡_, ap, _∙_}
-use Prim.Native.Nat.{ℕ, _+_, _-_, _*_, _≤_}
+use mathlib.Core.Path.{_≡_, sym, ap, _∙_, subst}
+use Prim.Native.Nat.{ℕ, _+_, _-_, _*_, _<_, _≤_}
 use native.Mathlib.Omega.{arith}
-use lib.ListN.{length}
+use lib.ListN.{length, take, drop}
 use Rattle.bytes.specs.Shares.{byteOf}
 use Rattle.bytes.proofs.Shares.{share-end, share-read, share-length, put-more}
 use Rattle.codes.specs.Code.{applied}
+use Rattle.codes.proofs.Words.{applied-data}
 use Rattle.erasure.proofs.Parity.{row-part}
 use Rattle.erasure.proofs.combine.apply_rows.Needs as need
 
@@ -31,9 +32,12 @@ loop-i-again c =
     let s : ℕ = c .args .s in
     let out : List ℕ = c .loop-i .out in
     let long : length out ≡ n * s = c .loop-i .kept .out ∙ c .pre .1 .1 in
+    let part : length (take (i * s + s - i * s) (drop (i * s) out)) ≡ s = ap length (share-read s i out) ∙ share-length s i n out long (c .loop-i-test .taken) in
     put-more s i n (i * s + s - i * s) out (c .combine .last .sum) long (c .loop-i-test .taken)
-    (c .combine .kept .sum ∙ ap length (share-read s i out) ∙ share-length s i n out long (c .loop-i-test .taken))
+    (c .combine .kept .sum ∙ part)
     (λ i b. applied k (λ j. byteOf k i j (c .args .rows .now)) (λ j. byteOf s j b (c .args .shares .now)))
     (c .loop-i .inv)
-    (λ b hb. c .combine .ensures b hb
-    ∙ row-part n k i (c .args .rows .now) (λ j. byteOf s j b (c .args .shares .now)) (c .pre .0) (c .loop-i-test .taken))
+    (λ b hb. c .combine .ensures b (subst (λ (n : ℕ). b < n) (sym part) hb)
+    ∙ row-part n k i (c .args .rows .now) (λ j. byteOf s j (0 + b) (c .args .shares .now)) (c .pre .0) (c .loop-i-test .taken)
+    ∙ applied-data k (λ j. byteOf k i j (c .args .rows .now)) (λ j. byteOf s j (0 + b) (c .args .shares .now)) (λ j. byteOf s j b (c .args .shares .now))
+    (λ j hj. ap (λ (m : ℕ). byteOf s j m (c .args .shares .now)) (let e : 0 + b ≡ b = omega arith in e)))

@@ -25,7 +25,7 @@ loop-x-again c =
 pub loop-done-holds : need.loop-done-holds
 loop-done-holds c = λ b h.
     c .loop-x .inv b (omega arith)
-    ∙ bit-none (length (c .args .row .now)) (at (c .args .row .now)) (λ j. byteOf (c .args .s) j b (c .args .shares .now)) (λ j. c .typed .row j .fits)
+    ∙ bit-none (length (c .args .row .now)) (at (c .args .row .now)) (λ j. byteOf (c .args .size) j (c .args .from + b) (c .args .shares .now)) (λ j. c .typed .row j .fits)
 
 -- one bit more: the sum doubled, and the terms of that bit
 turn : (k n done : ℕ) (row d : ℕ → ℕ) (xs ys : List ℕ) (b y : ℕ) → ((j : ℕ) → row j < 256) → n + 1 ≡ 8 - done → ys ≡ doubled xs → b < length xs
@@ -43,13 +43,13 @@ turn k n done row d xs ys b y small e twice h was adds =
 
 pub loop-done-again : need.loop-done-again
 loop-done-again c = λ b h.
-    turn (length (c .args .row .now)) (7 - c .loop-done .done) (c .loop-done .done) (at (c .args .row .now)) (λ j. byteOf (c .args .s) j b (c .args .shares .now))
+    turn (length (c .args .row .now)) (7 - c .loop-done .done) (c .loop-done .done) (at (c .args .row .now)) (λ j. byteOf (c .args .size) j (c .args .from + b) (c .args .shares .now))
     (c .loop-done .sum) (c .double-share .last .share) b (getD (c .add-selected .last .sum) b 0)
-    (λ j. c .typed .row j .fits) (omega arith) (c .double-share .ensures) (omega arith) (c .loop-done .inv b h) (c .add-selected .ensures b h)
+    (λ j. c .typed .row j .fits) (omega arith) (c .double-share .ensures) (omega arith) (c .loop-done .inv b h) (c .add-selected .ensures b (omega arith))
 
 pub returns : need.returns
 returns c = λ b h.
     let e : 8 - c .loop-done .done ≡ 0 = omega arith in
-    c .loop-done .inv b h
-    ∙ ap (λ (i : ℕ). applied (length (c .args .row .now)) (λ j. at (c .args .row .now) j / 2 ^ i) (λ j. byteOf (c .args .s) j b (c .args .shares .now))) e
-    ∙ bit-all (length (c .args .row .now)) (at (c .args .row .now)) (λ j. byteOf (c .args .s) j b (c .args .shares .now))
+    c .loop-done .inv b (omega arith)
+    ∙ ap (λ (i : ℕ). applied (length (c .args .row .now)) (λ j. at (c .args .row .now) j / 2 ^ i) (λ j. byteOf (c .args .size) j (c .args .from + b) (c .args .shares .now))) e
+    ∙ bit-all (length (c .args .row .now)) (at (c .args .row .now)) (λ j. byteOf (c .args .size) j (c .args .from + b) (c .args .shares .now))

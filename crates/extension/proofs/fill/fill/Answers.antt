@@ -6,7 +6,7 @@ use native.Mathlib.Nat.{mul-assoc}
 use native.Mathlib.Omega.{arith}
 use lib.ListN.{length}
 use Rattle.codes.specs.Code.{Table}
-use Rattle.erasure.proofs.Bounds.{width-most, size-most}
+use Rattle.erasure.proofs.Bounds.{width-most}
 use Rattle.extension.specs.Square.{extension, quadrant}
 use Rattle.extension.specs.Laws.{LinesCoded, LinesFromAny}
 use Rattle.extension.proofs.Squares.{extension-by-columns}
@@ -23,8 +23,7 @@ pub fill-columns-requires : need.fill-columns-requires
 fill-columns-requires g c κs =
     let f = fill-parts (c .args .k) (c .args .s) (length (c .args .shares .now)) (length (c .args .square .now)) (sym (c .if-not-fill-fits .ensures tt)) in
     let w : c .args .k ≤ 32 = width-most (c .args .k) (f .wide) in
-    let z : c .args .s ≤ 512 = size-most (c .args .s) (f .sized) in
-    (omega arith, omega arith)
+    omega arith
 
 pub returns : need.returns
 returns g c =
