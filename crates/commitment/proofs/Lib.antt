@@ -1,2 +1,3 @@
 pub mod Fitting
+pub mod Folds
 pub mod Trees

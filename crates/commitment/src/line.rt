@@ -1,5 +1,5 @@
 // The tree of one line of a square.
-ghost use Prim.Native.Nat.{ℕ, _*_, _<_, _^_, _≤_};
+ghost use Prim.Native.Nat.{ℕ, _*_, _+_, _<_, _^_, _≤_};
 ghost use Rattle.commitment.specs.Roots.{lineFits, lineLeaf, lineTree};
 ghost use Rattle.hash.specs.Digests.{digestLen};
 ghost use Rattle.header.specs.Fields.{fieldsOf};
@@ -14,19 +14,27 @@ use hash::digest::Hash;
 use header::header::Header;
 use layout::grow::grow;
 
-// Writes the leaf digests of line n to the front of its tree.
-fn put_line<H: Hash>(square: &[u8], size: usize, width: usize, n: usize, tree: &mut [u8])
+// Writes the leaf digests of line n as entries from `base` on.
+pub(crate) fn put_line<H: Hash>(
+    square: &[u8],
+    size: usize,
+    width: usize,
+    n: usize,
+    base: usize,
+    entries: &mut [u8],
+)
     requires line { ⌜ size ≤ 512 ⌝ ∗ ⌜ width ≤ 64 ⌝ ∗ ⌜ n < 2 * width ⌝ }
-    requires room { ⌜ length (now square) ≡ width * width * size ⌝ ∗ ⌜ digestLen * width ≤ length (now tree) ⌝ }
-    ensures { λ _. ⌜ ((j : ℕ) → j < width → slot j (now (tree .exit)) ≡ lineLeaf meaning width size (now (square .entry)) n j) ⌝ }
+    requires room { ⌜ length (now square) ≡ width * width * size ⌝ ∗ ⌜ digestLen * (base + width) ≤ length (now entries) ⌝ }
+    ensures leaves { λ _. ⌜ ((j : ℕ) → j < width → slot (base + j) (now (entries .exit)) ≡ lineLeaf meaning width size (now (square .entry)) n j) ⌝ }
+    ensures kept { λ _. ⌜ ((m : ℕ) → m < base → slot m (now (entries .exit)) ≡ slot m (now (entries .entry))) ⌝ }
 {
     for p in 0..width {
-        put_leaf::<H>(square, size, cell_on(width, n, p), tree, p);
+        put_leaf::<H>(square, size, cell_on(width, n, p), entries, base + p);
     }
 }
 
 // Lays out the tree of line n.
-pub(crate) fn grow_line<H: Hash>(
+fn grow_line<H: Hash>(
     square: &[u8],
     size: usize,
     width: usize,
@@ -38,7 +46,7 @@ pub(crate) fn grow_line<H: Hash>(
     requires room { ⌜ length (now square) ≡ width * width * size ⌝ ∗ ⌜ length (now tree) ≡ treeLen depth ⌝ }
     ensures { λ _. ⌜ now (tree .exit) ≡ treeLayout (joinOf plainRule meaning) depth (lineLeaf meaning width size (now (square .entry)) n) ⌝ }
 {
-    put_line::<H>(square, size, width, n, tree);
+    put_line::<H>(square, size, width, n, 0, tree);
     grow::<H>(tree, depth);
 }
 
