@@ -153,7 +153,17 @@ pub(crate) fn fold<H: Hash>(
     } else {
         let below = level - 1;
         fold::<H>(square, size, width, depth, below, 2 * i, base, work, roots);
-        fold::<H>(square, size, width, depth, below, 2 * i + 1, base + width, work, roots);
+        fold::<H>(
+            square,
+            size,
+            width,
+            depth,
+            below,
+            2 * i + 1,
+            base + width,
+            work,
+            roots,
+        );
         join_rows::<H>(work, base, width);
     }
 }

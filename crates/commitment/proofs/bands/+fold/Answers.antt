@@ -23,16 +23,54 @@ add-i g t c = record { fits = omega (arith, range-row (c .args .i) (c .args .lev
 pub fold-requires : need.fold-requires
 fold-requires g t c κs within =
     let h = halves (c .args .i) (c .args .level) (omega arith) in
-    let r = rows-below (c .args .width) (c .args .level) (omega arith) in
-    (omega arith, (within, (c .pre .shape .0, (c .pre .shape .1 .0, (c .pre .shape .1 .1 .0, (c .pre .shape .1 .1 .1 .0, (omega (arith, h .middle),
-    (c .pre .room .0, (omega arith, (c .pre .room .1 .1, λ n l. c .pre .done n (omega (arith, h .begins))))))))))))
+    let r = rows-below (c .args .width) (c .args .level) (omega arith) in (
+      omega arith,
+      (
+        within,
+        (
+          c .pre .shape .0,
+          (
+            c .pre .shape .1 .0,
+            (
+              c .pre .shape .1 .1 .0,
+              (
+                c .pre .shape .1 .1 .1 .0,
+                (
+                  omega (arith, h .middle),
+                  (c .pre .room .0, (omega arith, (c .pre .room .1 .1, λ n l. c .pre .done n (omega (arith, h .begins))))),
+                ),
+              ),
+            ),
+          ),
+        ),
+      ),
+    )
 
 pub fold-requires-else-level-eq0 : need.fold-requires-else-level-eq0
 fold-requires-else-level-eq0 g t c κs within =
     let h = halves (c .args .i) (c .args .level) (omega arith) in
-    let r = rows-below (c .args .width) (c .args .level) (omega arith) in
-    (omega arith, (within, (c .pre .shape .0, (c .pre .shape .1 .0, (c .pre .shape .1 .1 .0, (c .pre .shape .1 .1 .1 .0, (omega (arith, h .ends),
-    (c .pre .room .0, (omega arith, (omega arith, c .fold .ensures .rows))))))))))
+    let r = rows-below (c .args .width) (c .args .level) (omega arith) in (
+      omega arith,
+      (
+        within,
+        (
+          c .pre .shape .0,
+          (
+            c .pre .shape .1 .0,
+            (
+              c .pre .shape .1 .1 .0,
+              (
+                c .pre .shape .1 .1 .1 .0,
+                (
+                  omega (arith, h .ends),
+                  (c .pre .room .0, (omega arith, (omega arith, c .fold .ensures .rows))),
+                ),
+              ),
+            ),
+          ),
+        ),
+      ),
+    )
 
 pub join-rows-requires : need.join-rows-requires
 join-rows-requires g t c κs = omega (arith, rows-below (c .args .width) (c .args .level) (omega arith))
