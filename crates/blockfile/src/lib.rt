@@ -1,4 +1,6 @@
 // Block files: a header, roots and groups of shares, opened without copying any of them.
+#![tactic(auto)]
+
 pub mod file;
 pub mod find;
 pub mod found;

@@ -1,5 +1,7 @@
 // What is true of the codes: theorems alone, each the contract of a function that has nothing to do. The calls that encode and recover
 // stand in the crate above.
+#![tactic(auto)]
+
 ghost use Rattle.codes.specs.Code.{CauchyLaw, FirstLaw, PolynomialLaw, SecondLaw, WeightLaw, cauchy, cauchy_scale, plain_scale, polynomial, scaled_weight};
 ghost use Rattle.codes.specs.Grid.{GridLaw, SquareValues};
 ghost use Rattle.codes.specs.Values.{Values};

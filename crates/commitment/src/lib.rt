@@ -1,4 +1,6 @@
 // Committing to a square: the trees of its lines, their roots, and the data root over them.
+#![tactic(auto)]
+
 mod bands;
 pub mod commit;
 pub mod line;

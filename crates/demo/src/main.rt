@@ -1,4 +1,6 @@
 // One small block from its beginning to its end, printed. What it writes is compared with the file `stdout`.
+#![tactic(auto)]
+
 
 mod accusation;
 mod block;

@@ -1,4 +1,6 @@
 // The two half-rate erasure codes: k shares are encoded to 2k, and any k of those give back all.
+#![tactic(auto)]
+
 pub mod calls;
 pub mod code;
 mod combine;

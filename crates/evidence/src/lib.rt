@@ -1,3 +1,5 @@
 // Evidence that a share stands at a cell of a committed square.
+#![tactic(auto)]
+
 pub mod check;
 pub mod write;

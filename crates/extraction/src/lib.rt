@@ -1,4 +1,6 @@
 // A collision from an accepted proof against a block that is correctly extended.
+#![tactic(auto)]
+
 mod at_claim;
 mod at_witness;
 mod compare;

@@ -1,4 +1,6 @@
 // Checking proofs of bad encoding.
+#![tactic(auto)]
+
 mod case;
 pub mod check;
 mod claim;

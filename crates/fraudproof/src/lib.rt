@@ -1,4 +1,6 @@
 // Proofs of bad encoding as bytes.
+#![tactic(auto)]
+
 pub mod cut;
 pub mod proof;
 pub mod read;

@@ -1,10 +1,8 @@
 -- What a digest call answers and writes where nothing is to be refused, and where something is.
-use Rattle.std.proofs.Common.{◌≡◌, ℕ, ◌<◌, ◌≤◌, cond, eqb, ltb, List, length, Ok, Err, Result, sym, refl, ap, ◌∙◌, arith}
-use Rattle.std.proofs.lemmas.Bool.{le-ltb, eq-eqb, ltb-false, eqb-true, lt-ltb}
+use Rattle.std.proofs.Common.{◌≡◌, ℕ, ◌≤◌, List, length, Ok, Err, Result, arith}
+use Rattle.std.proofs.lemmas.Bool.{le-ltb, eq-eqb}
 use Rattle.std.proofs.lemmas.Bool.Decides.{nat_tests}
-use Rattle.octets.specs.Outcome.{Refused, outcome}
-use Rattle.hash.specs.declared.refusal.DigestRefusal.{DigestRefusal}
-use Rattle.hash.specs.Refusals.{told}
+use Rattle.octets.specs.Outcome.{Refused}
 use Rattle.hash.specs.Digests.{digest_len, parts_limit, digest_outcome, digest_out}
 
 pub answer_ok : (n o : ℕ) → n ≤ parts_limit → o ≡ digest_len → digest_outcome n o ≡ Ok tt

@@ -1,4 +1,6 @@
 // The interface of a hash. Everything above is written and proved against it alone, for every hash.
+#![tactic(auto)]
+
 pub mod digest;
 pub mod limits;
 pub mod refusal;

@@ -1,4 +1,6 @@
 // What names a block: its header, and the lengths, cells and lines that follow from it.
+#![tactic(auto)]
+
 pub mod cell;
 pub mod header;
 pub mod lengths;

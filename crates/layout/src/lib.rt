@@ -1,4 +1,6 @@
 // Whole trees laid out in a buffer, leaf digests first and root last, over any hash.
+#![tactic(auto)]
+
 pub mod cut;
 pub mod grow;
 pub mod size;

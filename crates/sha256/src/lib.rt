@@ -1,4 +1,6 @@
 // SHA-256.
+#![tactic(auto)]
+
 mod compression;
 pub mod digest;
 mod message;

@@ -1,4 +1,6 @@
 // Stores of shares, and what is said of any store.
+#![tactic(auto)]
+
 pub mod question;
 pub mod refusal;
 pub mod store;

@@ -1,4 +1,6 @@
 // Bad input and worked examples, as tables. Nothing here is part of the library.
+#![tactic(auto)]
+
 #[cfg(test)]
 mod accuse;
 #[cfg(test)]

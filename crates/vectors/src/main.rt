@@ -1,5 +1,7 @@
 // Compares the library with values that other software has made. The files of `data` have them; the README under tools/vectors
 // says where they come from.
+#![tactic(auto)]
+
 mod block;
 mod blocks;
 mod codes;

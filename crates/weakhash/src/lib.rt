@@ -1,4 +1,6 @@
 // A hash that anyone can break, to try out what follows from a collision. No block should use it.
+#![tactic(auto)]
+
 ghost use Rattle.weakhash.specs.Weak.{weak, weakened};
 ghost use Rattle.std.specs.Prelude.{◌≡◌, length};
 ghost use Rattle.sha256.specs.Message;

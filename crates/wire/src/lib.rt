@@ -1,4 +1,6 @@
 // Records: how blocks and proofs lie in bytes.
+#![tactic(auto)]
+
 mod body;
 pub mod due;
 pub mod kind;

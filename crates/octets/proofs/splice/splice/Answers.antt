@@ -11,5 +11,5 @@ returns c =
     let fits : at + length part ≤ length out = omega arith in
     record {
       answer = sym (le-leb (at + length part) (length out) fits);
-      written = over_is at _ out _ part c.copy-from-slice.ensures.after (omega arith) ∙ sym (spliced_in at part out fits);
+      written = over_is at _ out _ part c.copy_from_slice.ensures.after (omega arith) ∙ sym (spliced_in at part out fits);
     }

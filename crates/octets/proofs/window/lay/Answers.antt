@@ -1,4 +1,4 @@
-use Rattle.std.proofs.Common.{◌-◌, ◌⊎◌, refl, inl, inr, arith}
+use Rattle.std.proofs.Common.{◌-◌, refl, inl, inr, arith}
 use Rattle.octets.proofs.Windows.{laid_from, laid_none}
 use Rattle.octets.proofs.window.lay.Goals as goal
 

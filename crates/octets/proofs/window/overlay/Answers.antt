@@ -14,5 +14,5 @@ returns c j h =
     let ends : (length block ≤ at + n) ⊎ (length part ≤ from + n) =
     elim (cases_lt (length block - at) (length part - from)) [ inl l ↦ inl (omega arith) | inr l ↦ inr (omega arith) ] in
     let whole : from + n - from ≡ n = omega arith in
-    ap (λ ys. get_or (put_mid at (at + n - at) block ys) j 0) (c.copy-from-slice.ensures.after ∙ ap (λ m. take m (drop from part)) whole)
+    ap (λ ys. get_or (put_mid at (at + n - at) block ys) j 0) (c.copy_from_slice.ensures.after ∙ ap (λ m. take m (drop from part)) whole)
     ∙ overlaid_at_lem block part at from n (at + n - at) j (omega arith) (omega arith) ends (omega arith) h
