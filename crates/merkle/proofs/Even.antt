@@ -1,5 +1,5 @@
 -- The two strings of a collision that climbs show are equally long.
-use Rattle.std.proofs.Common.{◌≡◌, ℕ, suc, ◌+◌, List, ◌∷◌, ◌++◌, length, Some, None, Option, sym, ap, ◌∙◌, arith, length-append}
+use Rattle.std.proofs.Common.{◌≡◌, ℕ, suc, List, ◌∷◌, ◌++◌, length, Some, None, Option, sym, ap, ◌∙◌, arith, length-append}
 use Rattle.std.proofs.lemmas.Bool.{cond_both}
 use Rattle.hash.specs.Digests.{digest_len}
 use Rattle.merkle.specs.Tree.{right, left}

@@ -8,8 +8,8 @@ use Rattle.blockfile.specs.Walk.{file_limit}
 use Rattle.blockfile.proofs.Opens.{too_long, bad_header, bad_roots, bad_groups, good_groups, opens_as}
 use Rattle.blockfile.proofs.open.open_file.Goals as goal
 
-pub returns-then-bytes-gt-FILE-LIMIT : goal.returns-then-bytes-gt-FILE-LIMIT
-returns-then-bytes-gt-FILE-LIMIT c = let r = too_long c.args.bytes.now c.args.file.now (omega arith) TooLong refl in record { answer = r.answer; opened = r.opened }
+pub returns-then-bytes-gt-FILE_LIMIT : goal.returns-then-bytes-gt-FILE_LIMIT
+returns-then-bytes-gt-FILE_LIMIT c = let r = too_long c.args.bytes.now c.args.file.now (omega arith) TooLong refl in record { answer = r.answer; opened = r.opened }
 
 pub returns-in-err-header : goal.returns-in-err-header
 returns-in-err-header c =

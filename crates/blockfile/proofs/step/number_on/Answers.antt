@@ -10,8 +10,8 @@ returns c =
     let h = fields_of c.args.h.now in
     let r = row_low c.args.axis c.args.line c.args.place (width h) c.requires.0 c.requires.1 in
     let q = col_low c.args.axis c.args.line c.args.place (width h) c.requires.0 c.requires.1 in
-    let e1 = c.on-line-cell.ensures.row in
-    let e2 = c.on-line-cell.ensures.col in
-    let v : c.on-line-cell.result.row * (2 * c.args.h.now.k) + c.on-line-cell.result.col ≡ cell_number h (row_at c.args.axis c.args.line c.args.place) (col_at c.args.axis c.args.line c.args.place) =
-    ap (λ x. x * (2 * c.args.h.now.k) + c.on-line-cell.result.col) e1 ∙ ap (λ x. row_at c.args.axis c.args.line c.args.place * (2 * c.args.h.now.k) + x) e2 in
+    let e1 = c.on_line-cell.ensures.row in
+    let e2 = c.on_line-cell.ensures.col in
+    let v : c.on_line-cell.result.row * (2 * c.args.h.now.k) + c.on_line-cell.result.col ≡ cell_number h (row_at c.args.axis c.args.line c.args.place) (col_at c.args.axis c.args.line c.args.place) =
+    ap (λ x. x * (2 * c.args.h.now.k) + c.on_line-cell.result.col) e1 ∙ ap (λ x. row_at c.args.axis c.args.line c.args.place * (2 * c.args.h.now.k) + x) e2 in
     record { value = v; small = omega (arith, number_low h c.args.h.now.width _ _ r q) }

@@ -17,7 +17,7 @@ returns-in-Err c =
     let rest : List ℕ = take (length bs - c.loop-at.at) (drop c.loop-at.at bs) in
     let rest_is = take_rest bs c.loop-at.at in
     let some : 0 < length rest = omega (arith, ap length rest_is, length-drop c.loop-at.at bs) in
-    let p = c.in-Err.ensures.value ∙ ap (λ d. reads_at h d c.loop-at.at rest) c.due-at.ensures in
+    let p = c.in-Err.ensures.value ∙ ap (λ d. reads_at h d c.loop-at.at rest) c.due_at.ensures in
     refused_walk h bs c.args.start _ _ (faulty h bs c.args.h.now.width c.args.start c.loop-at.point c.loop-at.index c.loop-at.at c.loop-at.invariant rest rest_is some _ p)
 
 pub returns-in-err-point : goal.returns-in-err-point
@@ -28,7 +28,7 @@ returns-in-err-point c =
     let rest : List ℕ = take (length bs - c.loop-at.at) (drop c.loop-at.at bs) in
     let rest_is = take_rest bs c.loop-at.at in
     let some : 0 < length rest = omega (arith, ap length rest_is, length-drop c.loop-at.at bs) in
-    let p = c.in-Ok.ensures.value ∙ ap (λ d. reads_at h d c.loop-at.at rest) c.due-at.ensures in
+    let p = c.in-Ok.ensures.value ∙ ap (λ d. reads_at h d c.loop-at.at rest) c.due_at.ensures in
     rw (q.1, q.2) (refused_walk h bs c.args.start _ _ (refuses h bs c.args.h.now.width c.args.start c.loop-at.point c.loop-at.index c.loop-at.at c.loop-at.invariant rest rest_is some _ _ p _ c.in-err-point.ensures.answer))
 
 pub loop-at-preserved : goal.loop-at-preserved
@@ -38,7 +38,7 @@ loop-at-preserved c =
     let rest : List ℕ = take (length bs - c.loop-at.at) (drop c.loop-at.at bs) in
     let rest_is = take_rest bs c.loop-at.at in
     let some : 0 < length rest = omega (arith, ap length rest_is, length-drop c.loop-at.at bs) in
-    let p = c.in-Ok.ensures.value ∙ ap (λ d. reads_at h d c.loop-at.at rest) c.due-at.ensures in
+    let p = c.in-Ok.ensures.value ∙ ap (λ d. reads_at h d c.loop-at.at rest) c.due_at.ensures in
     goes_on h bs c.args.h.now.width c.args.start c.loop-at.point c.loop-at.index c.loop-at.at c.loop-at.invariant rest rest_is some _ _ p _ c.in-ok-point.ensures.answer _ refl
 
 pub returns : goal.returns

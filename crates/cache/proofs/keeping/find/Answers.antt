@@ -3,12 +3,12 @@ use Rattle.std.proofs.lemmas.List.{at_drop_all}
 use Rattle.cache.specs.Keeping.{kept_for, places}
 use Rattle.cache.proofs.Keepers.{kept_none, kept_hit, kept_other}
 use Rattle.cache.proofs.keeping.find.Goals as goal
-use Rattle.cache.proofs.keeping.find.Goals.{in-Some+else-same-cell, in-default}
+use Rattle.cache.proofs.keeping.find.Goals.{in-Some+else-same_cell, in-default}
 
-pub returns-then-same-cell : goal.returns-then-same-cell
-returns-then-same-cell c k s =
+pub returns-then-same_cell : goal.returns-then-same_cell
+returns-then-same_cell c k s =
     let a = c.args in
-    sym (kept_hit a.cell.row a.cell.col k s a.slots.now c.loop-o.o-index c.in-Some.v c.loop-o-test.true c.in-Some.is (sym c.if-same-cell.ensures))
+    sym (kept_hit a.cell.row a.cell.col k s a.slots.now c.loop-o.o-index c.in-Some.v c.loop-o-test.true c.in-Some.is (sym c.if-same_cell.ensures))
     ∙ c.loop-o.invariant k s
 
 pub loop-o-preserved : goal.loop-o-preserved
@@ -17,7 +17,7 @@ loop-o-preserved c k s =
     let i = c.loop-o.o-index in
     let h = c.loop-o-test.true in
     elim c.match-o.branch [
-      | in-Some+else-same-cell w ↦ kept_other a.cell.row a.cell.col k s a.slots.now i w.in-Some.v h w.in-Some.is (sym w.if-same-cell.ensures) ∙ c.loop-o.invariant k s
+      | in-Some+else-same_cell w ↦ kept_other a.cell.row a.cell.col k s a.slots.now i w.in-Some.v h w.in-Some.is (sym w.if-same_cell.ensures) ∙ c.loop-o.invariant k s
       | in-default w ↦ kept_none a.cell.row a.cell.col k s a.slots.now i h w.in-default.is ∙ c.loop-o.invariant k s
     ]
 

@@ -11,6 +11,6 @@ returns g c =
     let v = c.args.value.now in
     let path = c.args.path.now in
     let rs = from_node (levels path) c.args.place path in
-    c.climb-up.ensures
-    ∙ ap (climb plain_rule f rs) (c.leaf-digest.ensures.written ∙ out_ok (length v) c.args.out.now (leaf_of plain_rule f v) c.requires.0 c.requires.1)
+    c.climb_up.ensures
+    ∙ ap (climb plain_rule f rs) (c.leaf_digest.ensures.written ∙ out_ok (length v) c.args.out.now (leaf_of plain_rule f v) c.requires.0 c.requires.1)
     ∙ sym (climb_more plain_rule f alone rs v)

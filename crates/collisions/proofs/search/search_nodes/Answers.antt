@@ -13,8 +13,8 @@ loop-i-init g c =
     let f = g.H.Hash.meaning in
     let d = c.args.depth in
     let p = c.args.place in
-    let pa = c.args.path-a.now in
-    let pb = c.args.path-b.now in
+    let pa = c.args.path_a.now in
+    let pb = c.args.path_b.now in
     let a = c.args.a.now in
     let b = c.args.b.now in (
       ap (λ rs. found f rs (left d 0 p pb) a b) (left_none d p pa) ∙ ap (λ rs. found f (from_node d p pa) rs a b) (left_none d p pb),
@@ -24,11 +24,11 @@ loop-i-init g c =
       refl,
     )
 
-pub returns-then-pair-level : goal.returns-then-pair-level
-returns-then-pair-level g c =
+pub returns-then-pair_level : goal.returns-then-pair_level
+returns-then-pair_level g c =
     let i = c.loop-i.i in
-    let pa = c.args.path-a.now in
-    let pb = c.args.path-b.now in
+    let pa = c.args.path_a.now in
+    let pb = c.args.path_b.now in
     let inv = c.loop-i.invariant in
     let within : digest_len * i + digest_len ≤ length pa = omega arith in
     let o : Option Two =
@@ -36,9 +36,9 @@ returns-then-pair-level g c =
     let all =
     pair_hit g.H.Hash.meaning c.args.depth i c.loop-i.place pa pb c.loop-i.a c.loop-i.b _ _
     (slot_cut i pa) (slot_cut i pb) c.loop-i-test.true o inv.0
-    c.loop-i.string-a c.loop-i.string-b c.pair-level.new.string-a c.pair-level.new.string-b
+    c.loop-i.string_a c.loop-i.string_b c.pair_level.new.string_a c.pair_level.new.string_b
     (omega arith) (ap length (slot_cut i pa) ∙ slot_length i pa within)
-    (sym c.if-pair-level.ensures.hit) c.if-pair-level.ensures.one c.if-pair-level.ensures.other in
+    (sym c.if-pair_level.ensures.hit) c.if-pair_level.ensures.one c.if-pair_level.ensures.other in
     record {
       answer = all.0;
       one = all.1 ∙ ap (put_one o) inv.3;
@@ -51,13 +51,13 @@ loop-i-preserved g c =
     let f = g.H.Hash.meaning in
     let i = c.loop-i.i in
     let p = c.loop-i.place in
-    let pa = c.args.path-a.now in
-    let pb = c.args.path-b.now in
+    let pa = c.args.path_a.now in
+    let pb = c.args.path_b.now in
     let inv = c.loop-i.invariant in
-    let up = c.if-pair-level.ensures in (
+    let up = c.if-pair_level.ensures in (
       pair_miss f c.args.depth i p pa pb c.loop-i.a c.loop-i.b _ _
           (slot_cut i pa) (slot_cut i pb) c.loop-i-test.true _ inv.0
-          c.pair-level.new.a c.pair-level.new.b (sym up.hit) (up.first refl) (up.second refl),
+          c.pair_level.new.a c.pair_level.new.b (sym up.hit) (up.first refl) (up.second refl),
       climb_on plain_rule f c.args.depth i p pa c.loop-i.a _ c.loop-i-test.true
           (up.first refl ∙ ap (λ s. above plain_rule f (beside (side p) s) c.loop-i.a) (slot_cut i pa)) ∙ inv.1,
       climb_on plain_rule f c.args.depth i p pb c.loop-i.b _ c.loop-i-test.true
@@ -72,14 +72,14 @@ returns g c =
     let d = c.args.depth in
     let i = c.loop-i.i in
     let p = c.loop-i.place in
-    let pa = c.args.path-a.now in
-    let pb = c.args.path-b.now in
+    let pa = c.args.path_a.now in
+    let pb = c.args.path_b.now in
     let inv = c.loop-i.invariant in
     let none = sym inv.0 ∙ no_pair f d i p pa pb c.loop-i.a c.loop-i.b c.loop-i-test.false in
     record {
       answer = sym (ap found_len none);
-      one = inv.3 ∙ ap (λ o. put_one o c.args.string-a.now) (sym none);
-      other = inv.4 ∙ ap (λ o. put_other o c.args.string-b.now) (sym none);
+      one = inv.3 ∙ ap (λ o. put_one o c.args.string_a.now) (sym none);
+      other = inv.4 ∙ ap (λ o. put_other o c.args.string_b.now) (sym none);
       ends = λ z. (
         sym (climb_all plain_rule f d i p pa c.loop-i.a c.loop-i-test.false) ∙ inv.1,
         sym (climb_all plain_rule f d i p pb c.loop-i.b c.loop-i-test.false) ∙ inv.2,

@@ -8,14 +8,14 @@ use Rattle.commitment.proofs.Folds.{halves, range_row, rows_below, leaf_turned, 
 use Rattle.commitment.proofs.Trees.{root_sized}
 use Rattle.commitment.proofs.bands.+fold.Goals as goal
 
-pub overflow-mul-i : goal.overflow-mul-i
-overflow-mul-i g t c = record { fits = omega (arith, range_row c.args.i c.args.level c.args.width c.requires.shape.1.1.1.1) }
+pub overflow_mul-i : goal.overflow_mul-i
+overflow_mul-i g t c = record { fits = omega (arith, range_row c.args.i c.args.level c.args.width c.requires.shape.1.1.1.1) }
 
-pub overflow-mul-i-else-level-eq0 : goal.overflow-mul-i-else-level-eq0
-overflow-mul-i-else-level-eq0 g t c = record { fits = omega (arith, range_row c.args.i c.args.level c.args.width c.requires.shape.1.1.1.1) }
+pub overflow_mul-i-else-level-eq0 : goal.overflow_mul-i-else-level-eq0
+overflow_mul-i-else-level-eq0 g t c = record { fits = omega (arith, range_row c.args.i c.args.level c.args.width c.requires.shape.1.1.1.1) }
 
-pub overflow-add-i : goal.overflow-add-i
-overflow-add-i g t c = record { fits = omega (arith, range_row c.args.i c.args.level c.args.width c.requires.shape.1.1.1.1) }
+pub overflow_add-i : goal.overflow_add-i
+overflow_add-i g t c = record { fits = omega (arith, range_row c.args.i c.args.level c.args.width c.requires.shape.1.1.1.1) }
 
 pub fold-requires : goal.fold-requires
 fold-requires g t c κs within =
@@ -69,8 +69,8 @@ fold-requires-else-level-eq0 g t c κs within =
       ),
     )
 
-pub join-rows-requires : goal.join-rows-requires
-join-rows-requires g t c = omega (arith, rows_below c.args.width c.args.level (omega arith))
+pub join_rows-requires : goal.join_rows-requires
+join_rows-requires g t c = omega (arith, rows_below c.args.width c.args.level (omega arith))
 
 pub returns-then-level-eq0 : goal.returns-then-level-eq0
 returns-then-level-eq0 g t c =
@@ -86,11 +86,11 @@ returns-then-level-eq0 g t c =
     let row : i < w = range_row i c.args.level w c.requires.shape.1.1.1.1 in
     record {
       columns = λ j l.
-          c.put-row.ensures.leaves j l ∙ leaf_turned f w s sq i j row ∙ sym (node_start J (line_leaf f w s sq (w + j)) i)
+          c.put_row.ensures.leaves j l ∙ leaf_turned f w s sq i j row ∙ sym (node_start J (line_leaf f w s sq (w + j)) i)
           ∙ ap (λ h. node J (line_leaf f w s sq (w + j)) h i) (sym none);
-      kept = c.put-row.ensures.kept;
+      kept = c.put_row.ensures.kept;
       rows = λ n l.
-          entries_more of i c.args.roots.now _ c.put-row.ensures.root (root_sized f sized (line_leaf f w s sq i) c.args.depth (sized _)) (omega arith)
+          entries_more of i c.args.roots.now _ c.put_row.ensures.root (root_sized f sized (line_leaf f w s sq i) c.args.depth (sized _)) (omega arith)
           (λ m b. c.requires.done m (omega (arith, one_row i c.args.level none))) n (omega (arith, one_row (i + 1) c.args.level none));
     }
 
@@ -107,9 +107,9 @@ returns-else-level-eq0 g t c =
     let leaf : ℕ → ℕ → Node = λ j. line_leaf f w c.args.size c.args.square.now (w + j) in
     record {
       columns = λ j l.
-          c.join-rows.ensures.joined j l
+          c.join_rows.ensures.joined j l
           ∙ ap₂ J (c.fold-else-level-eq0.ensures.kept (base + j) (omega arith) ∙ c.fold.ensures.columns j l) (c.fold-else-level-eq0.ensures.columns j l)
           ∙ sym (node_more J (leaf j) (level - 1) i) ∙ ap (λ m. node J (leaf j) m i) up;
-      kept = λ m l. c.join-rows.ensures.kept m l ∙ c.fold-else-level-eq0.ensures.kept m (omega arith) ∙ c.fold.ensures.kept m l;
+      kept = λ m l. c.join_rows.ensures.kept m l ∙ c.fold-else-level-eq0.ensures.kept m (omega arith) ∙ c.fold.ensures.kept m l;
       rows = λ n l. c.fold-else-level-eq0.ensures.rows n (omega (arith, h.ends));
     }

@@ -12,8 +12,8 @@ loop-j-preserved c =
     let j = c.loop-j.j in
     let row = c.args.row.now in
     let long = slot_length (c.args.from + j) row (omega arith) in (
-      band_more (λ m. slot (c.args.from + m) row) c.args.to j c.loop-j.out _ c.copy-entry.ensures long (omega arith) c.loop-j.invariant.0,
-      λ m l. band_kept c.args.to j (slot (c.args.from + j) row) c.loop-j.out _ c.copy-entry.ensures long (omega arith) m l ∙ c.loop-j.invariant.1 m l,
+      band_more (λ m. slot (c.args.from + m) row) c.args.to j c.loop-j.out _ c.copy_entry.ensures long (omega arith) c.loop-j.invariant.0,
+      λ m l. band_kept c.args.to j (slot (c.args.from + j) row) c.loop-j.out _ c.copy_entry.ensures long (omega arith) m l ∙ c.loop-j.invariant.1 m l,
     )
 
 pub returns : goal.returns

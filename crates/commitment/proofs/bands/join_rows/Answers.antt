@@ -18,8 +18,8 @@ loop-j-preserved g c =
     let work : List ℕ = c.loop-j.work in
     let made : ℕ → Node = λ m. J (slot (base + m) old) (slot (base + w + m) old) in
     let sized = g.met.H.Hash.sized in
-    let e : c.join-entry.new.work ≡ over (digest_len * (base + j)) (made j) work =
-    c.join-entry.ensures
+    let e : c.join_entry.new.work ≡ over (digest_len * (base + j)) (made j) work =
+    c.join_entry.ensures
     ∙ ap (λ z. over (digest_len * (base + j)) z work)
     (ap₂ J (c.loop-j.invariant.1 (base + j) (omega arith)) (c.loop-j.invariant.1 (base + w + j) (omega arith))) in (
       band_more made base j work _ e (sized _) (omega arith) c.loop-j.invariant.0,

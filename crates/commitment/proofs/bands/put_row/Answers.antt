@@ -9,13 +9,13 @@ use Rattle.commitment.proofs.bands.put_row.Goals as goal
 pub returns : goal.returns
 returns g c =
     let f = g.H.Hash.meaning in
-    let row = c.put-line.new.entries in
+    let row = c.put_line.new.entries in
     record {
-      leaves = c.put-line.ensures.leaves;
-      kept = c.put-line.ensures.kept;
+      leaves = c.put_line.ensures.leaves;
+      kept = c.put_line.ensures.kept;
       root =
-          c.put-row-root.ensures
+          c.put_row_root.ensures
           ∙ ap (λ z. over (digest_len * c.args.i) z c.args.roots.now)
           (node_same (join_of plain_rule f) (λ p. slot (c.args.base + p) row) (line_leaf f c.args.width c.args.size c.args.square.now c.args.i) c.args.depth 0
-          (λ j l. c.put-line.ensures.leaves j (omega arith)));
+          (λ j l. c.put_line.ensures.leaves j (omega arith)));
     }

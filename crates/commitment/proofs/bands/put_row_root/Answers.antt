@@ -4,4 +4,4 @@ use Rattle.commitment.proofs.bands.put_row_root.Goals as goal
 
 pub returns : goal.returns
 returns g c =
-    written_entry c.args.n _ _ c.args.roots.now _ c.splice.ensures.written c.row-root.ensures (omega arith) (omega arith)
+    written_entry c.args.n _ _ c.args.roots.now _ c.splice.ensures.written c.row_root.ensures (omega arith) (omega arith)

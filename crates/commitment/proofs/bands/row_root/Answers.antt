@@ -12,6 +12,6 @@ returns g c =
     let leaf : ℕ → Node = λ p. slot (c.args.base + p) row in
     root_cut f g.met.H.Hash.sized leaf d c.grow.new.tree c.args.top.now _ (omega arith)
     (λ i l. slot_length (c.args.base + i) row (omega arith))
-    (grown_over f leaf d c.copy-entries.new.out _ (omega arith) (omega arith)
-    (λ j l. ap (λ i. slot i c.copy-entries.new.out) (omega arith) ∙ c.copy-entries.ensures.copied j (omega arith)) c.grow.ensures.written)
-    c.requires.room.1.1 c.tree-root.ensures.written
+    (grown_over f leaf d c.copy_entries.new.out _ (omega arith) (omega arith)
+    (λ j l. ap (λ i. slot i c.copy_entries.new.out) (omega arith) ∙ c.copy_entries.ensures.copied j (omega arith)) c.grow.ensures.written)
+    c.requires.room.1.1 c.tree_root.ensures.written

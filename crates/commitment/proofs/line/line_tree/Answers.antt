@@ -8,8 +8,8 @@ use Rattle.header.proofs.Measures.{measured}
 use Rattle.commitment.specs.Roots.{line_tree, line_fits, line_leaf}
 use Rattle.commitment.proofs.line.line_tree.Goals as goal
 
-pub grow-line-requires : goal.grow-line-requires
-grow-line-requires g c =
+pub grow_line-requires : goal.grow_line-requires
+grow_line-requires g c =
     let h = c.args.h.now in
     let m = measured (fields_of h) c.lengths-m.result h.width h.size c.lengths-m.ensures in
     record {
@@ -31,7 +31,7 @@ returns g c =
     record {
       answer = sym fits;
       written =
-          c.grow-line.ensures
+          c.grow_line.ensures
           ∙ ap (λ l. tree_layout (join_of plain_rule f) l.depth (line_leaf f l.width l.share sq n)) e
           ∙ sym (cond-true (line_fits h n (length sq) (length c.args.tree.now)) _ _ fits);
     }

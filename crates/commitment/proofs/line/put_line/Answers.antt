@@ -10,13 +10,13 @@ use Rattle.commitment.specs.Values.{value_leaf}
 use Rattle.commitment.proofs.Folds.{band_more, band_kept}
 use Rattle.commitment.proofs.line.put_line.Goals as goal
 
-pub put-leaf-requires : goal.put-leaf-requires
-put-leaf-requires g c =
+pub put_leaf-requires : goal.put_leaf-requires
+put_leaf-requires g c =
     let w = c.args.width in
-    let inside : c.cell-on.result < w * w = omega (arith, c.cell-on.ensures, on_below w c.args.n c.loop-p.p c.requires.line.1.1 c.loop-p-test.true) in
+    let inside : c.cell_on.result < w * w = omega (arith, c.cell_on.ensures, on_below w c.args.n c.loop-p.p c.requires.line.1.1 c.loop-p-test.true) in
     let few = mul-le w w 64 64 c.requires.line.1.0 c.requires.line.1.0 in
     record {
-      value = (omega arith, (omega arith, share_end c.cell-on.result (w * w) c.args.size _ inside c.requires.room.0));
+      value = (omega arith, (omega arith, share_end c.cell_on.result (w * w) c.args.size _ inside c.requires.room.0));
       room = omega arith;
     }
 
@@ -29,7 +29,7 @@ loop-p-preserved g c =
     let p = c.loop-p.p in
     let base = c.args.base in
     let leaf = line_leaf f c.args.width c.args.size c.args.square.now c.args.n in
-    let e = c.put-leaf.ensures ∙ ap (λ k. over (digest_len * (base + p)) (value_leaf f c.args.size c.args.square.now k) c.loop-p.entries) c.cell-on.ensures in (
+    let e = c.put_leaf.ensures ∙ ap (λ k. over (digest_len * (base + p)) (value_leaf f c.args.size c.args.square.now k) c.loop-p.entries) c.cell_on.ensures in (
       band_more leaf base p c.loop-p.entries _ e (g.met.H.Hash.sized _) (omega arith) c.loop-p.invariant.0,
       λ m l. band_kept base p (leaf p) c.loop-p.entries _ e (g.met.H.Hash.sized _) (omega arith) m l ∙ c.loop-p.invariant.1 m l,
     )

@@ -11,14 +11,14 @@ unfolding square_roots
 returns g c =
     let f = g.H.Hash.meaning in
     let w = c.args.width in
-    let out : List ℕ = c.copy-entries.new.out in
+    let out : List ℕ = c.copy_entries.new.out in
     let of : ℕ → Node = λ n. root (join_of plain_rule f) c.args.depth (line_leaf f w c.args.size c.args.square.now n) in
     let at : (n : ℕ) → n < 2 * w → slot n out ≡ of n =
     λ n l. elim (cases_lt n w) [
-      | inl b ↦ c.copy-entries.ensures.kept n b ∙ c.fold.ensures.rows n (omega arith)
+      | inl b ↦ c.copy_entries.ensures.kept n b ∙ c.fold.ensures.rows n (omega arith)
       | inr b ↦
           ap (λ m. slot m out) (let e : n ≡ w + (n - w) = omega arith in e)
-          ∙ c.copy-entries.ensures.copied (n - w) (omega arith) ∙ c.fold.ensures.columns (n - w) (omega arith)
+          ∙ c.copy_entries.ensures.copied (n - w) (omega arith) ∙ c.fold.ensures.columns (n - w) (omega arith)
           ∙ ap of (let e : w + (n - w) ≡ n = omega arith in e)
     ] in
     entries_all of 0 (2 * w) out (omega arith) (λ n l. at n l ∙ ap of (omega arith))

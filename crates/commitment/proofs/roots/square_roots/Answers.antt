@@ -4,8 +4,8 @@ use Rattle.header.specs.Fields.{fields_of}
 use Rattle.header.proofs.Measures.{measured}
 use Rattle.commitment.proofs.roots.square_roots.Goals as goal
 
-pub put-roots-requires : goal.put-roots-requires
-put-roots-requires g c =
+pub put_roots-requires : goal.put_roots-requires
+put_roots-requires g c =
     let h = c.args.h.now in
     let m = measured (fields_of h) c.lengths-n.result h.width h.size c.lengths-n.ensures in
     record {

@@ -15,6 +15,6 @@ returns g c =
     let values = c.args.values.now in
     let read : take (i * s + s - i * s) (drop (i * s) values) ≡ share s i values = share_read s i values in
     let few : length (take (i * s + s - i * s) (drop (i * s) values)) ≤ parts_limit = simp (length-take, length-drop) (omega arith) in
-    let made : c.leaf-digest.new.out ≡ leaf_of plain_rule f (share s i values) =
-    c.leaf-digest.ensures.written ∙ out_ok (length (take (i * s + s - i * s) (drop (i * s) values))) _ _ few refl ∙ ap (leaf_of plain_rule f) read in
+    let made : c.leaf_digest.new.out ≡ leaf_of plain_rule f (share s i values) =
+    c.leaf_digest.ensures.written ∙ out_ok (length (take (i * s + s - i * s) (drop (i * s) values))) _ _ few refl ∙ ap (leaf_of plain_rule f) read in
     written_entry c.args.to _ _ c.args.entries.now _ c.splice.ensures.written made (ap length made ∙ g.met.H.Hash.sized _) (omega arith)

@@ -10,8 +10,8 @@ use Rattle.erasure.proofs.Tables.{room, room_long, weighable_from, weighed_at}
 use Rattle.erasure.proofs.Recovers.{through_from_weights}
 use Rattle.erasure.proofs.calls.fill_word.Goals as goal
 
-pub overflow-mul-rows-2 : goal.overflow-mul-rows-2
-overflow-mul-rows-2 g c =
+pub overflow_mul-rows-2 : goal.overflow_mul-rows-2
+overflow_mul-rows-2 g c =
     let k : ℕ = length c.args.places.now in
     let r : 2 * k * k ≤ 2048 = room k (width_most k c.requires.0) in
     record { fits = omega arith }
@@ -19,8 +19,8 @@ overflow-mul-rows-2 g c =
 pub slice-bounds-space-end : goal.slice-bounds-space-end
 slice-bounds-space-end g c = room (length c.args.places.now) (width_most (length c.args.places.now) c.requires.0)
 
-pub apply-rows-requires : goal.apply-rows-requires
-apply-rows-requires g c =
+pub apply_rows-requires : goal.apply_rows-requires
+apply_rows-requires g c =
     let k : ℕ = length c.args.places.now in
     let l : k ≤ 32 = width_most k c.requires.0 in
     (c.weights.auto.rows ∙ room_long (2 * k * k) (room k l), (c.requires.1.1.1.0, c.requires.1.1.1.1))
@@ -33,10 +33,10 @@ returns g c =
     let l : k ≤ 32 = width_most k c.requires.0 in
     let W : Weight = g.C.Code.weight in
     let old : List ℕ = take (2 * k * k - 0) (drop 0 (replicate {A = ℕ} 2048 0)) in
-    through_from_weights g.C.Code.table W g.met.C.Code.weighs k s (omega arith) ps c.args.shares.now c.apply-rows.new.out
-    (rising_places k ps refl c.requires.1.0) c.requires.1.1.1.0 (c.apply-rows.auto.out ∙ c.requires.1.1.1.1)
+    through_from_weights g.C.Code.table W g.met.C.Code.weighs k s (omega arith) ps c.args.shares.now c.apply_rows.new.out
+    (rising_places k ps refl c.requires.1.0) c.requires.1.1.1.0 (c.apply_rows.auto.out ∙ c.requires.1.1.1.1)
     (λ n. (c.type-inv.shares n).fits)
-    (λ i hi b hb. c.apply-rows.ensures i hi b hb
+    (λ i hi b hb. c.apply_rows.ensures i hi b hb
     ∙ applied_row k (λ j. byte_of k i j c.weights.new.rows) (W k (at ps) i) (λ j. byte_of s j b c.args.shares.now)
     (λ j hj. ap (byte_of k i j) c.weights.ensures
     ∙ weighed_at W ps old (weighable_from ps (length old) c.requires.0 c.requires.1.0 (room_long (2 * k * k) (room k l))) i j hi hj))

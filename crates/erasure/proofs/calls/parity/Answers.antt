@@ -10,32 +10,32 @@ use Rattle.erasure.proofs.calls.parity.Goals as goal
 
 pub slice-bounds-space-end : goal.slice-bounds-space-end
 slice-bounds-space-end g c =
-    width_most c.args.k (parity_parts c.args.k c.args.size (length c.args.shares.now) (length c.args.out.now) (sym c.if-not-parity-fits.ensures)).wide
+    width_most c.args.k (parity_parts c.args.k c.args.size (length c.args.shares.now) (length c.args.out.now) (sym c.if-not-parity_fits.ensures)).wide
 
-pub count-places-requires : goal.count-places-requires
-count-places-requires g c =
-    let f = parity_parts c.args.k c.args.size (length c.args.shares.now) (length c.args.out.now) (sym c.if-not-parity-fits.ensures) in
+pub count_places-requires : goal.count_places-requires
+count_places-requires g c =
+    let f = parity_parts c.args.k c.args.size (length c.args.shares.now) (length c.args.out.now) (sym c.if-not-parity_fits.ensures) in
     let w : c.args.k ≤ 32 = width_most c.args.k f.wide in
     subst (λ (n : ℕ). n < 33) (sym (places_long c.args.k w)) (omega arith)
 
-pub fill-parity-requires : goal.fill-parity-requires
-fill-parity-requires g c =
-    let f = parity_parts c.args.k c.args.size (length c.args.shares.now) (length c.args.out.now) (sym c.if-not-parity-fits.ensures) in
-    let long : length c.count-places.new.places ≡ c.args.k = c.count-places.auto.places ∙ places_long c.args.k (width_most c.args.k f.wide) in
-    (ap ok_width long ∙ f.wide, (c.count-places.ensures, (f.from ∙ ap (λ (n : ℕ). n * c.args.size) (sym long), f.into ∙ ap (λ (n : ℕ). n * c.args.size) (sym long))))
+pub fill_parity-requires : goal.fill_parity-requires
+fill_parity-requires g c =
+    let f = parity_parts c.args.k c.args.size (length c.args.shares.now) (length c.args.out.now) (sym c.if-not-parity_fits.ensures) in
+    let long : length c.count_places.new.places ≡ c.args.k = c.count_places.auto.places ∙ places_long c.args.k (width_most c.args.k f.wide) in
+    (ap ok_width long ∙ f.wide, (c.count_places.ensures, (f.from ∙ ap (λ (n : ℕ). n * c.args.size) (sym long), f.into ∙ ap (λ (n : ℕ). n * c.args.size) (sym long))))
 
 pub returns : goal.returns
 returns g c =
     let k : ℕ = c.args.k in
     let s : ℕ = c.args.size in
     let xs : List ℕ = c.args.shares.now in
-    let out : List ℕ = c.fill-parity.new.out in
-    let e = c.if-not-parity-fits.ensures in
+    let out : List ℕ = c.fill_parity.new.out in
+    let e = c.if-not-parity_fits.ensures in
     let f = parity_parts k s (length xs) (length c.args.out.now) (sym e) in
-    let long : length c.count-places.new.places ≡ k = c.count-places.auto.places ∙ places_long k (width_most k f.wide) in
+    let long : length c.count_places.new.places ≡ k = c.count_places.auto.places ∙ places_long k (width_most k f.wide) in
     record {
       answer = e;
-      rest = rest_from_bytes g.C.Code.table k s xs out (c.fill-parity.auto.out ∙ f.into)
-          (subst (λ (n : ℕ). (i : ℕ) → i < n → (b : ℕ) → b < s → byte_of s i b out ≡ symbol g.C.Code.table n (λ j. byte_of s j b xs) (n + i)) long c.fill-parity.ensures)
+      rest = rest_from_bytes g.C.Code.table k s xs out (c.fill_parity.auto.out ∙ f.into)
+          (subst (λ (n : ℕ). (i : ℕ) → i < n → (b : ℕ) → b < s → byte_of s i b out ≡ symbol g.C.Code.table n (λ j. byte_of s j b xs) (n + i)) long c.fill_parity.ensures)
           ∙ ap (λ t. cond t (drop (k * s) (codeword g.C.Code.table k s xs)) c.args.out.now) e;
     }

@@ -8,12 +8,12 @@ use Rattle.erasure.proofs.Bounds.{width_most, size_most}
 use Rattle.erasure.proofs.Rises.{rising_places}
 use Rattle.erasure.proofs.Recovers.{recover_width, recover_size, recover_length, recover_rise, recover_fine, fills, not_both, gives_back, no_other}
 use Rattle.erasure.proofs.calls.recover.Goals as goal
-use Rattle.erasure.proofs.calls.recover.Goals.{then-places-k-via-then-places-k, then-places-k-via-else-places-k+then-not-lengths-fit}
+use Rattle.erasure.proofs.calls.recover.Goals.{then-places-k-via-then-places-k, then-places-k-via-else-places-k+then-not-lengths_fit}
 
-pub returns-then-not-ok-width : goal.returns-then-not-ok-width
-returns-then-not-ok-width g c =
+pub returns-then-not-ok_width : goal.returns-then-not-ok_width
+returns-then-not-ok_width g c =
     let o : Result (Unit {0}) Refused = recover_outcome c.args.k c.args.s c.args.places.now (length c.args.shares.now) (length c.args.out.now) in
-    let e : o ≡ Err (plain 1) = recover_width c.args.k c.args.s c.args.places.now (length c.args.shares.now) (length c.args.out.now) (sym c.if-not-ok-width.ensures) in
+    let e : o ≡ Err (plain 1) = recover_width c.args.k c.args.s c.args.places.now (length c.args.shares.now) (length c.args.out.now) (sym c.if-not-ok_width.ensures) in
     record {
       answer = sym e;
       refused = λ _ _. refl;
@@ -22,10 +22,10 @@ returns-then-not-ok-width g c =
       back = λ h. absurd (not_both o (plain 1) tt e h);
     }
 
-pub returns-then-not-ok-size : goal.returns-then-not-ok-size
-returns-then-not-ok-size g c =
+pub returns-then-not-ok_size : goal.returns-then-not-ok_size
+returns-then-not-ok_size g c =
     let o : Result (Unit {0}) Refused = recover_outcome c.args.k c.args.s c.args.places.now (length c.args.shares.now) (length c.args.out.now) in
-    let e : o ≡ Err (plain 2) = recover_size c.args.k c.args.s c.args.places.now (length c.args.shares.now) (length c.args.out.now) (sym c.if-not-ok-width.ensures) (sym c.if-not-ok-size.ensures) in
+    let e : o ≡ Err (plain 2) = recover_size c.args.k c.args.s c.args.places.now (length c.args.shares.now) (length c.args.out.now) (sym c.if-not-ok_width.ensures) (sym c.if-not-ok_size.ensures) in
     record {
       answer = sym e;
       refused = λ _ _. refl;
@@ -34,19 +34,19 @@ returns-then-not-ok-size g c =
       back = λ h. absurd (not_both o (plain 2) tt e h);
     }
 
-pub lengths-fit-requires : goal.lengths-fit-requires
-lengths-fit-requires g c =
-    let w : c.args.k ≤ 32 = width_most c.args.k (sym c.if-not-ok-width.ensures) in
-    let z : c.args.s ≤ 512 = size_most c.args.s (sym c.if-not-ok-size.ensures) in
+pub lengths_fit-requires : goal.lengths_fit-requires
+lengths_fit-requires g c =
+    let w : c.args.k ≤ 32 = width_most c.args.k (sym c.if-not-ok_width.ensures) in
+    let z : c.args.s ≤ 512 = size_most c.args.s (sym c.if-not-ok_size.ensures) in
     (omega arith, omega arith)
 
 pub returns-then-places-k : goal.returns-then-places-k
 returns-then-places-k g c =
     let o : Result (Unit {0}) Refused = recover_outcome c.args.k c.args.s c.args.places.now (length c.args.shares.now) (length c.args.out.now) in
-    let e : o ≡ Err (plain 3) = recover_length c.args.k c.args.s c.args.places.now (length c.args.shares.now) (length c.args.out.now) (sym c.if-not-ok-width.ensures) (sym c.if-not-ok-size.ensures)
+    let e : o ≡ Err (plain 3) = recover_length c.args.k c.args.s c.args.places.now (length c.args.shares.now) (length c.args.out.now) (sym c.if-not-ok_width.ensures) (sym c.if-not-ok_size.ensures)
     (elim c.then-places-k.branch [
       | then-places-k-via-then-places-k w ↦ and_left (eqb (length c.args.places.now) c.args.k) _ (ne_eqb (length c.args.places.now) c.args.k w.if-places-k.true)
-      | then-places-k-via-else-places-k+then-not-lengths-fit w ↦ and_right (eqb (length c.args.places.now) c.args.k) _ (sym w.if-not-lengths-fit.ensures)
+      | then-places-k-via-else-places-k+then-not-lengths_fit w ↦ and_right (eqb (length c.args.places.now) c.args.k) _ (sym w.if-not-lengths_fit.ensures)
     ]) in
     record {
       answer = sym e;
@@ -56,12 +56,12 @@ returns-then-places-k g c =
       back = λ h. absurd (not_both o (plain 3) tt e h);
     }
 
-pub returns-then-not-are-rising : goal.returns-then-not-are-rising
-returns-then-not-are-rising g c =
+pub returns-then-not-are_rising : goal.returns-then-not-are_rising
+returns-then-not-are_rising g c =
     let o : Result (Unit {0}) Refused = recover_outcome c.args.k c.args.s c.args.places.now (length c.args.shares.now) (length c.args.out.now) in
-    let e : o ≡ Err (plain 5) = recover_rise c.args.k c.args.s c.args.places.now (length c.args.shares.now) (length c.args.out.now) (sym c.if-not-ok-width.ensures) (sym c.if-not-ok-size.ensures)
-    (and_from (eqb (length c.args.places.now) c.args.k) (fitting c.args.k c.args.s (length c.args.shares.now) (length c.args.out.now)) (eq-eqb (length c.args.places.now) c.args.k c.if-places-k.false) (sym c.if-not-lengths-fit.ensures))
-    (sym c.if-not-are-rising.ensures) in
+    let e : o ≡ Err (plain 5) = recover_rise c.args.k c.args.s c.args.places.now (length c.args.shares.now) (length c.args.out.now) (sym c.if-not-ok_width.ensures) (sym c.if-not-ok_size.ensures)
+    (and_from (eqb (length c.args.places.now) c.args.k) (fitting c.args.k c.args.s (length c.args.shares.now) (length c.args.out.now)) (eq-eqb (length c.args.places.now) c.args.k c.if-places-k.false) (sym c.if-not-lengths_fit.ensures))
+    (sym c.if-not-are_rising.ensures) in
     record {
       answer = sym e;
       refused = λ _ _. refl;
@@ -70,11 +70,11 @@ returns-then-not-are-rising g c =
       back = λ h. absurd (not_both o (plain 5) tt e h);
     }
 
-pub fill-word-requires : goal.fill-word-requires
-fill-word-requires g c =
+pub fill_word-requires : goal.fill_word-requires
+fill_word-requires g c =
     fills c.args.k c.args.s (length c.args.shares.now) (length c.args.out.now) c.args.places.now c.if-places-k.false
-    (sym c.if-not-ok-width.ensures) (sym c.if-not-are-rising.ensures) (size_most c.args.s (sym c.if-not-ok-size.ensures))
-    (sym c.if-not-lengths-fit.ensures)
+    (sym c.if-not-ok_width.ensures) (sym c.if-not-are_rising.ensures) (size_most c.args.s (sym c.if-not-ok_size.ensures))
+    (sym c.if-not-lengths_fit.ensures)
 
 pub returns : goal.returns
 returns g c =
@@ -82,14 +82,14 @@ returns g c =
     let s : ℕ = c.args.s in
     let ps : List ℕ = c.args.places.now in
     let xs : List ℕ = c.args.shares.now in
-    let out : List ℕ = c.fill-word.new.out in
+    let out : List ℕ = c.fill_word.new.out in
     let o : Result (Unit {0}) Refused = recover_outcome k s ps (length xs) (length c.args.out.now) in
-    let e : o ≡ Ok tt = recover_fine k s ps (length xs) (length c.args.out.now) (sym c.if-not-ok-width.ensures) (sym c.if-not-ok-size.ensures)
-    (and_from (eqb (length c.args.places.now) c.args.k) (fitting c.args.k c.args.s (length c.args.shares.now) (length c.args.out.now)) (eq-eqb (length c.args.places.now) c.args.k c.if-places-k.false) (sym c.if-not-lengths-fit.ensures))
-    (sym c.if-not-are-rising.ensures) in
-    let w : k ≤ 32 = width_most k (sym c.if-not-ok-width.ensures) in
-    let t : Through g.C.Code.table k s ps xs out = subst (λ (n : ℕ). Through g.C.Code.table n s ps xs out) c.if-places-k.false c.fill-word.ensures in
-    let pl : Places k (at ps) = rising_places k ps c.if-places-k.false (sym c.if-not-are-rising.ensures) in
+    let e : o ≡ Ok tt = recover_fine k s ps (length xs) (length c.args.out.now) (sym c.if-not-ok_width.ensures) (sym c.if-not-ok_size.ensures)
+    (and_from (eqb (length c.args.places.now) c.args.k) (fitting c.args.k c.args.s (length c.args.shares.now) (length c.args.out.now)) (eq-eqb (length c.args.places.now) c.args.k c.if-places-k.false) (sym c.if-not-lengths_fit.ensures))
+    (sym c.if-not-are_rising.ensures) in
+    let w : k ≤ 32 = width_most k (sym c.if-not-ok_width.ensures) in
+    let t : Through g.C.Code.table k s ps xs out = subst (λ (n : ℕ). Through g.C.Code.table n s ps xs out) c.if-places-k.false c.fill_word.ensures in
+    let pl : Places k (at ps) = rising_places k ps c.if-places-k.false (sym c.if-not-are_rising.ensures) in
     record {
       answer = sym e;
       refused = λ r h. absurd (not_both o r tt h e);

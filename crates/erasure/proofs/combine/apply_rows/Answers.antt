@@ -14,8 +14,8 @@ pub slice-bounds-combine-end-in-loop-i : goal.slice-bounds-combine-end-in-loop-i
 slice-bounds-combine-end-in-loop-i c =
     share_end c.loop-i.i c.args.n c.args.s (length c.loop-i.out) c.loop-i-test.true (c.loop-i.auto.out ∙ c.requires.1.1)
 
-pub overflow-add-i-in-loop-i : goal.overflow-add-i-in-loop-i
-overflow-add-i-in-loop-i c =
+pub overflow_add-i-in-loop-i : goal.overflow_add-i-in-loop-i
+overflow_add-i-in-loop-i c =
     let l : c.loop-i.i * c.args.s + c.args.s ≤ length c.loop-i.out =
     share_end c.loop-i.i c.args.n c.args.s (length c.loop-i.out) c.loop-i-test.true (c.loop-i.auto.out ∙ c.requires.1.1) in
     record { fits = omega arith }

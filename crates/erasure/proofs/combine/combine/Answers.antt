@@ -37,8 +37,8 @@ turn k n done row d xs ys b y small e twice h was adds =
 pub loop-done-preserved : goal.loop-done-preserved
 loop-done-preserved c = λ b h.
     turn (length c.args.row.now) (7 - c.loop-done.done) c.loop-done.done (at c.args.row.now) (λ j. byte_of c.args.size j (c.args.from + b) c.args.shares.now)
-    c.loop-done.sum c.double-share.new.share b (get_or c.add-selected.new.sum b 0)
-    (λ j. (c.type-inv.row j).fits) (omega arith) c.double-share.ensures (omega arith) (c.loop-done.invariant b h) (c.add-selected.ensures b (omega arith))
+    c.loop-done.sum c.double_share.new.share b (get_or c.add_selected.new.sum b 0)
+    (λ j. (c.type-inv.row j).fits) (omega arith) c.double_share.ensures (omega arith) (c.loop-done.invariant b h) (c.add_selected.ensures b (omega arith))
 
 pub returns : goal.returns
 returns c = λ b h.

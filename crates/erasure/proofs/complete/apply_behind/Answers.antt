@@ -42,8 +42,8 @@ slice-bounds-combine-end c =
     share_end (c.loop-m.m / c.args.w) (2 * c.args.k) c.args.k (length c.args.rows.now)
     (div_below c.loop-m.m c.args.w (2 * c.args.k) c.requires.small.1.0 c.loop-m-test.true) c.requires.long.0
 
-pub slice-bounds-copy-from-slice-end : goal.slice-bounds-copy-from-slice-end
-slice-bounds-copy-from-slice-end c =
+pub slice-bounds-copy_from_slice-end : goal.slice-bounds-copy_from_slice-end
+slice-bounds-copy_from_slice-end c =
     share_end c.loop-m.m (2 * c.args.k * c.args.w) c.args.s (length c.loop-m.word) c.loop-m-test.true (c.loop-m.invariant.0 ∙ c.requires.long.1.0)
 
 pub loop-m-preserved : goal.loop-m-preserved
@@ -55,12 +55,12 @@ loop-m-preserved c =
     let rows : List ℕ = c.args.rows.now in
     let old : List ℕ = c.args.word.now in
     let word : List ℕ = c.loop-m.word in
-    let new : List ℕ = c.copy-from-slice.new.self in
+    let new : List ℕ = c.copy_from_slice.new.self in
     let hi : m / w < 2 * k = div_below m w (2 * k) c.requires.small.1.0 c.loop-m-test.true in
     let hc : m % w < w = mod_below m w c.requires.small.1.0 in
     let long : length word ≡ 2 * k * w * s = c.loop-m.invariant.0 ∙ c.requires.long.1.0 in
     let same : m * s + s - m * s ≡ s = omega arith in
-    let part : length new ≡ s = c.copy-from-slice.auto.self ∙ ap length (share_read s m word) ∙ share_length s m (2 * k * w) word long c.loop-m-test.true in (
+    let part : length new ≡ s = c.copy_from_slice.auto.self ∙ ap length (share_read s m word) ∙ share_length s m (2 * k * w) word long c.loop-m-test.true in (
       put_length (m * s) (m * s + s - m * s) word new
           (subst (λ (n : ℕ). m * s + n ≤ length word) (sym same) (share_end m (2 * k * w) s (length word) c.loop-m-test.true long)) (part ∙ sym same)
           ∙ c.loop-m.invariant.0,
@@ -68,7 +68,7 @@ loop-m-preserved c =
           (λ m b. cond (ltb m (k * w)) (byte_of s m b old) (applied k (λ j. byte_of k (m / w) j rows) (λ j. byte_of s (j * w + m % w) b old)))
           c.loop-m.invariant.1
           (λ b hb.
-          ap (λ zs. get_or zs b 0) c.copy-from-slice.ensures.after ∙ c.combine.ensures b (omega arith)
+          ap (λ zs. get_or zs b 0) c.copy_from_slice.ensures.after ∙ c.combine.ensures b (omega arith)
           ∙ row_part (2 * k) k (m / w) rows (λ j. byte_of (w * s) j (m % w * s + b) (take (k * (w * s) - 0) word)) c.requires.long.0 hi
           ∙ applied_data k (λ j. byte_of k (m / w) j rows) (λ j. byte_of (w * s) j (m % w * s + b) (take (k * (w * s) - 0) word)) (λ j. byte_of s (j * w + m % w) b old)
           (λ j hj.

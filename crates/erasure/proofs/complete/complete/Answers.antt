@@ -8,20 +8,20 @@ use Rattle.erasure.proofs.complete.complete.Goals as goal
 
 pub slice-bounds-space-end : goal.slice-bounds-space-end
 slice-bounds-space-end g c =
-    width_most c.args.k (complete_parts c.args.k c.args.w c.args.s (length c.args.word.now) (sym c.if-not-complete-fits.ensures)).wide
+    width_most c.args.k (complete_parts c.args.k c.args.w c.args.s (length c.args.word.now) (sym c.if-not-complete_fits.ensures)).wide
 
-pub count-places-requires : goal.count-places-requires
-count-places-requires g c =
-    let f = complete_parts c.args.k c.args.w c.args.s (length c.args.word.now) (sym c.if-not-complete-fits.ensures) in
+pub count_places-requires : goal.count_places-requires
+count_places-requires g c =
+    let f = complete_parts c.args.k c.args.w c.args.s (length c.args.word.now) (sym c.if-not-complete_fits.ensures) in
     let w : c.args.k ≤ 32 = width_most c.args.k f.wide in
     subst (λ (n : ℕ). n < 33) (sym (places_long c.args.k w)) (omega arith)
 
-pub fill-behind-requires : goal.fill-behind-requires
-fill-behind-requires g c =
-    let f = complete_parts c.args.k c.args.w c.args.s (length c.args.word.now) (sym c.if-not-complete-fits.ensures) in
-    let long : length c.count-places.new.places ≡ c.args.k = c.count-places.auto.places ∙ places_long c.args.k (width_most c.args.k f.wide) in
+pub fill_behind-requires : goal.fill_behind-requires
+fill_behind-requires g c =
+    let f = complete_parts c.args.k c.args.w c.args.s (length c.args.word.now) (sym c.if-not-complete_fits.ensures) in
+    let long : length c.count_places.new.places ≡ c.args.k = c.count_places.auto.places ∙ places_long c.args.k (width_most c.args.k f.wide) in
     record {
-      first = (ap ok_width long ∙ f.wide, c.count-places.ensures);
+      first = (ap ok_width long ∙ f.wide, c.count_places.ensures);
       cells = (f.some, (f.few, (f.sized, f.long ∙ ap (λ (n : ℕ). 2 * n * (c.args.w * c.args.s)) (sym long))));
     }
 
@@ -31,11 +31,11 @@ returns g c =
     let w : ℕ = c.args.w in
     let s : ℕ = c.args.s in
     let old : List ℕ = c.args.word.now in
-    let e = c.if-not-complete-fits.ensures in
+    let e = c.if-not-complete_fits.ensures in
     let f = complete_parts k w s (length old) (sym e) in
-    let long : length c.count-places.new.places ≡ k = c.count-places.auto.places ∙ places_long k (width_most k f.wide) in
+    let long : length c.count_places.new.places ≡ k = c.count_places.auto.places ∙ places_long k (width_most k f.wide) in
     record {
       answer = e;
-      whole = c.fill-behind.ensures ∙ ap (λ (n : ℕ). codeword g.C.Code.table n (w * s) (take (n * (w * s)) old)) long
+      whole = c.fill_behind.ensures ∙ ap (λ (n : ℕ). codeword g.C.Code.table n (w * s) (take (n * (w * s)) old)) long
           ∙ ap (λ t. cond t (codeword g.C.Code.table k (w * s) (take (k * (w * s)) old)) old) e;
     }

@@ -13,8 +13,8 @@ factor i m = inv (bit_xor i m)
 pub loop-m-init : goal.loop-m-init
 loop-m-init c = product_none (except 1 c.args.i (factor c.args.i))
 
-pub overflow-cast-i : goal.overflow-cast-i
-overflow-cast-i c = record { fits = byte_xor c.args.i c.loop-m.m (omega arith) (omega arith) }
+pub overflow_cast-i : goal.overflow_cast-i
+overflow_cast-i c = record { fits = byte_xor c.args.i c.loop-m.m (omega arith) (omega arith) }
 
 pub loop-m-preserved : goal.loop-m-preserved
 loop-m-preserved c =

@@ -5,11 +5,11 @@ use Rattle.erasure.proofs.rows.apply_row.Goals as goal
 
 pub combine-requires : goal.combine-requires
 combine-requires c =
-    let f = row_parts _ _ _ _ _ (sym c.if-not-row-fits.ensures) in (f.long, omega arith)
+    let f = row_parts _ _ _ _ _ (sym c.if-not-row_fits.ensures) in (f.long, omega arith)
 
 pub returns : goal.returns
 returns c =
-    let e = c.if-not-row-fits.ensures in
+    let e = c.if-not-row_fits.ensures in
     let row = c.args.row.now in
     let old = c.args.sum.now in
     record {

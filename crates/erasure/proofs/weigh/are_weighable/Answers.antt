@@ -16,21 +16,21 @@ unfolding weighable
 by_rise ps n t e r =
     ap (λ w. w && (rising_below (2 * length ps) ps && eqb n (2 * length ps * length ps))) e ∙ ap (λ w. w && eqb n (2 * length ps * length ps)) r
 
-pub returns-then-not-ok-width : goal.returns-then-not-ok-width
-returns-then-not-ok-width c = sym (no_width c.args.places.now c.args.n (sym c.if-not-ok-width.ensures))
+pub returns-then-not-ok_width : goal.returns-then-not-ok_width
+returns-then-not-ok_width c = sym (no_width c.args.places.now c.args.n (sym c.if-not-ok_width.ensures))
 
-pub overflow-mul-result-then-are-rising : goal.overflow-mul-result-then-are-rising
-overflow-mul-result-then-are-rising c =
+pub overflow_mul-result-then-are_rising : goal.overflow_mul-result-then-are_rising
+overflow_mul-result-then-are_rising c =
     let k : ℕ = length c.args.places.now in
-    let l : k ≤ 32 = width_most k (sym c.if-not-ok-width.ensures) in
+    let l : k ≤ 32 = width_most k (sym c.if-not-ok_width.ensures) in
     let m : 2 * k * k ≤ 64 * 32 = mul-le (2 * k) k 64 32 (omega arith) l in
     record { fits = omega arith }
 
-pub returns-then-are-rising : goal.returns-then-are-rising
-returns-then-are-rising c =
-    sym (by_rise c.args.places.now c.args.n true (sym c.if-not-ok-width.ensures) (sym c.if-are-rising.ensures))
+pub returns-then-are_rising : goal.returns-then-are_rising
+returns-then-are_rising c =
+    sym (by_rise c.args.places.now c.args.n true (sym c.if-not-ok_width.ensures) (sym c.if-are_rising.ensures))
 
-pub returns-else-are-rising : goal.returns-else-are-rising
-returns-else-are-rising c =
-    c.if-are-rising.false
-    ∙ sym (by_rise c.args.places.now c.args.n false (sym c.if-not-ok-width.ensures) (sym c.if-are-rising.ensures))
+pub returns-else-are_rising : goal.returns-else-are_rising
+returns-else-are_rising c =
+    c.if-are_rising.false
+    ∙ sym (by_rise c.args.places.now c.args.n false (sym c.if-not-ok_width.ensures) (sym c.if-are_rising.ensures))

@@ -14,8 +14,8 @@ factor ps j m = inv (bit_xor (at ps j) (at ps m))
 pub loop-m-init : goal.loop-m-init
 loop-m-init c = product_none (except 1 c.args.j (factor c.args.places.now c.args.j))
 
-pub overflow-cast-places : goal.overflow-cast-places
-overflow-cast-places c =
+pub overflow_cast-places : goal.overflow_cast-places
+overflow_cast-places c =
     let a : at c.args.places.now c.args.j < 2 * length c.args.places.now = c.requires.1.0.below c.args.j c.requires.1.1 in
     let b : at c.args.places.now c.loop-m.m < 2 * length c.args.places.now = c.requires.1.0.below c.loop-m.m c.loop-m-test.true in
     record { fits = byte_xor (at c.args.places.now c.args.j) (at c.args.places.now c.loop-m.m) (omega arith) (omega arith) }

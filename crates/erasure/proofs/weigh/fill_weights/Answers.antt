@@ -9,6 +9,6 @@ pub returns : goal.returns
 returns c = λ i hi j hj.
     let ps : List ℕ = c.args.places.now in
     let v : ℕ → ℕ = at c.args.scales.now in
-    c.weight-rows.ensures i hi j hj
-    ∙ ap (λ (x : ℕ). weight_by (mul (v i) (numerator (length ps) (at ps) i)) x i (at ps j)) (c.share-factors.ensures j hj)
+    c.weight_rows.ensures i hi j hj
+    ∙ ap (λ (x : ℕ). weight_by (mul (v i) (numerator (length ps) (at ps) i)) x i (at ps j)) (c.share_factors.ensures j hj)
     ∙ weight_by_lem (length ps) (omega arith) (at ps) c.requires.1.0 v c.requires.1.1.1.1 i j hi hj

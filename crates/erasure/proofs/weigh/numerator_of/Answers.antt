@@ -10,8 +10,8 @@ use Rattle.erasure.proofs.weigh.numerator_of.Goals as goal
 pub loop-m-init : goal.loop-m-init
 loop-m-init c = product_none (λ m. bit_xor c.args.i (at c.args.places.now m))
 
-pub overflow-cast-i-in-loop-m : goal.overflow-cast-i-in-loop-m
-overflow-cast-i-in-loop-m c =
+pub overflow_cast-i-in-loop-m : goal.overflow_cast-i-in-loop-m
+overflow_cast-i-in-loop-m c =
     let b : at c.args.places.now c.loop-m.m < 2 * length c.args.places.now = c.requires.1.0.below c.loop-m.m c.loop-m-test.true in
     record { fits = byte_xor c.args.i (at c.args.places.now c.loop-m.m) (omega arith) (omega arith) }
 

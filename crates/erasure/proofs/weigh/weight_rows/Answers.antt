@@ -6,8 +6,8 @@ use Rattle.codes.specs.Words.{at}
 use Rattle.erasure.specs.Weights.{numerator, weight_by}
 use Rattle.erasure.proofs.weigh.weight_rows.Goals as goal
 
-pub slice-bounds-weight-row-end : goal.slice-bounds-weight-row-end
-slice-bounds-weight-row-end c =
+pub slice-bounds-weight_row-end : goal.slice-bounds-weight_row-end
+slice-bounds-weight_row-end c =
     share_end c.loop-i.i (2 * length c.args.places.now) (length c.args.places.now) (length c.loop-i.rows) c.loop-i-test.true
     (c.loop-i.auto.rows ∙ c.requires.1.1.1.1)
 
@@ -19,10 +19,10 @@ loop-i-preserved c =
     let rows : List ℕ = c.loop-i.rows in
     let long : length rows ≡ 2 * k * k = c.loop-i.auto.rows ∙ c.requires.1.1.1.1 in
     let factors : List ℕ = c.args.factors.now in
-    put_more k i (2 * k) (i * k + k - i * k) rows c.weight-row.new.row long c.loop-i-test.true
-    (c.weight-row.auto.row ∙ ap length (share_read k i rows) ∙ share_length k i (2 * k) rows long c.loop-i-test.true)
+    put_more k i (2 * k) (i * k + k - i * k) rows c.weight_row.new.row long c.loop-i-test.true
+    (c.weight_row.auto.row ∙ ap length (share_read k i rows) ∙ share_length k i (2 * k) rows long c.loop-i-test.true)
     (λ i j. weight_by (mul (at c.args.scales.now i) (numerator k (at ps) i)) (at factors j) i (at ps j))
     c.loop-i.invariant
-    (λ j hj. c.weight-row.ensures j hj
+    (λ j hj. c.weight_row.ensures j hj
     ∙ ap (λ (x : ℕ). weight_by x (at factors j) i (at ps j))
-    (c.product-of-symbol.ensures ∙ ap (mul (at c.args.scales.now i)) c.numerator-of.ensures))
+    (c.product-of_symbol.ensures ∙ ap (mul (at c.args.scales.now i)) c.numerator_of.ensures))

@@ -16,13 +16,13 @@ returns g c =
     let r = c.args.cell.row in
     let col = c.args.cell.col in
     let axis = c.args.axis in
-    let inside = and_parts (ltb r (width h)) (ltb col (width h)) (sym c.if-not-has-cell.ensures) in
-    let lengths = and_parts (eqb (length sq) (square_len h)) (eqb (length roots) (roots_len h) && eqb (length c.args.path.now) (path_len h)) (sym c.if-not-block-fits.ensures) in
+    let inside = and_parts (ltb r (width h)) (ltb col (width h)) (sym c.if-not-has_cell.ensures) in
+    let lengths = and_parts (eqb (length sq) (square_len h)) (eqb (length roots) (roots_len h) && eqb (length c.args.path.now) (path_len h)) (sym c.if-not-block_fits.ensures) in
     record {
       answer = search rules;
       written = search rules;
       proves = λ ok own root.
-          ap (verifies f h r col axis (cell_share h sq r col)) c.put-path.ensures
+          ap (verifies f h r col axis (cell_share h sq r col)) c.put_path.ensures
           ∙ own_verifies f g.met.H.Hash.sized h c.args.h.now.width sq roots axis r col (ltb-true r (width h) inside.0) (ltb-true col (width h) inside.1) own
           (eqb-true (length sq) (square_len h) lengths.0) root;
     }

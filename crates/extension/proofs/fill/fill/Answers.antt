@@ -8,14 +8,14 @@ use Rattle.extension.proofs.Extends.{extension_lines, extension_through, extensi
 use Rattle.extension.proofs.Fills.{fill_parts, columns_filled, extension_from_rows}
 use Rattle.extension.proofs.fill.fill.Goals as goal
 
-pub fill-rows-requires : goal.fill-rows-requires
-fill-rows-requires g c =
-    let f = fill_parts c.args.k c.args.s (length c.args.shares.now) (length c.args.square.now) (sym c.if-not-fill-fits.ensures) in
+pub fill_rows-requires : goal.fill_rows-requires
+fill_rows-requires g c =
+    let f = fill_parts c.args.k c.args.s (length c.args.shares.now) (length c.args.square.now) (sym c.if-not-fill_fits.ensures) in
     (f.wide, (f.sized, (f.from ∙ mul_assoc c.args.k c.args.k c.args.s, f.into ∙ mul_assoc (2 * c.args.k) (2 * c.args.k) c.args.s)))
 
-pub fill-columns-requires : goal.fill-columns-requires
-fill-columns-requires g c =
-    let f = fill_parts c.args.k c.args.s (length c.args.shares.now) (length c.args.square.now) (sym c.if-not-fill-fits.ensures) in
+pub fill_columns-requires : goal.fill_columns-requires
+fill_columns-requires g c =
+    let f = fill_parts c.args.k c.args.s (length c.args.shares.now) (length c.args.square.now) (sym c.if-not-fill_fits.ensures) in
     let w : c.args.k ≤ 32 = width_most c.args.k f.wide in
     omega arith
 
@@ -25,14 +25,14 @@ returns g c =
     let k : ℕ = c.args.k in
     let s : ℕ = c.args.s in
     let xs : List ℕ = c.args.shares.now in
-    let sq : List ℕ = c.fill-columns.new.square in
-    let e = c.if-not-fill-fits.ensures in
+    let sq : List ℕ = c.fill_columns.new.square in
+    let e = c.if-not-fill_fits.ensures in
     let f = fill_parts k s (length xs) (length c.args.square.now) (sym e) in
     let w : k ≤ 32 = width_most k f.wide in
     let m : k ≤ 128 = omega arith in
     let is : sq ≡ extension T k s xs =
-    columns_filled T k s c.fill-rows.new.square sq f.wide f.sized (c.fill-rows.auto.square ∙ f.into ∙ mul_assoc (2 * k) (2 * k) s) c.fill-columns.ensures
-    ∙ extension_from_rows T k s xs c.fill-rows.new.square c.fill-rows.ensures in
+    columns_filled T k s c.fill_rows.new.square sq f.wide f.sized (c.fill_rows.auto.square ∙ f.into ∙ mul_assoc (2 * k) (2 * k) s) c.fill_columns.ensures
+    ∙ extension_from_rows T k s xs c.fill_rows.new.square c.fill_rows.ensures in
     record {
       answer = e;
       filled = is ∙ ap (λ t. cond t (extension T k s xs) c.args.square.now) e;

@@ -5,11 +5,11 @@ use Rattle.codes.specs.Words.{codeword}
 use Rattle.extension.proofs.Fills.{small, encoded_row}
 use Rattle.extension.proofs.fill.fill_rows.Goals as goal
 
-pub overflow-mul-line : goal.overflow-mul-line
-overflow-mul-line g c = let b = small c.args.k c.args.s c.requires.0 c.requires.1.0 in record { fits = omega arith }
+pub overflow_mul-line : goal.overflow_mul-line
+overflow_mul-line g c = let b = small c.args.k c.args.s c.requires.0 c.requires.1.0 in record { fits = omega arith }
 
-pub overflow-add-r : goal.overflow-add-r
-overflow-add-r g c =
+pub overflow_add-r : goal.overflow_add-r
+overflow_add-r g c =
     let l : c.loop-r.r * (c.args.k * c.args.s) + c.args.k * c.args.s ≤ length c.args.shares.now =
     share_end c.loop-r.r c.args.k (c.args.k * c.args.s) (length c.args.shares.now) c.loop-r-test.true c.requires.1.1.0 in
     record { fits = omega arith }
@@ -18,8 +18,8 @@ pub slice-bounds-encode-end : goal.slice-bounds-encode-end
 slice-bounds-encode-end g c =
     share_end c.loop-r.r c.args.k (c.args.k * c.args.s) (length c.args.shares.now) c.loop-r-test.true c.requires.1.1.0
 
-pub overflow-add-r-in-loop-r : goal.overflow-add-r-in-loop-r
-overflow-add-r-in-loop-r g c =
+pub overflow_add-r-in-loop-r : goal.overflow_add-r-in-loop-r
+overflow_add-r-in-loop-r g c =
     let l : c.loop-r.r * (2 * c.args.k * c.args.s) + 2 * c.args.k * c.args.s ≤ length c.loop-r.square =
     share_end c.loop-r.r (2 * c.args.k) (2 * c.args.k * c.args.s) (length c.loop-r.square) (omega arith) (c.loop-r.auto.square ∙ c.requires.1.1.1) in
     record { fits = omega arith }

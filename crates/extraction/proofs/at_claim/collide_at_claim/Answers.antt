@@ -23,8 +23,8 @@ slice-bounds-own-end g c =
     let l : c.lengths-n.result.data_path ≤ 224 = omega (arith, ap (λ l. l.data_path) c.lengths-n.ensures, depth_most h.k) in
     l
 
-pub compare-roots-requires : goal.compare-roots-requires
-compare-roots-requires g c =
+pub compare_roots-requires : goal.compare_roots-requires
+compare_roots-requires g c =
     let h = c.args.h.now in
     let x = fields_of h in
     let n = c.lengths-n.result in
@@ -32,7 +32,7 @@ compare-roots-requires g c =
     let m = measured x n h.width h.size e in
     let nodes : n.data_tree ≤ 8160 = omega arith in
     let len : n.data_path ≤ 224 = omega (arith, ap (λ l. l.data_path) e, depth_most h.k) in
-    let line = c.line-number.ensures ∙ ap (λ a. line_number x a c.args.p.now.index) c.axis-by.ensures in
+    let line = c.line_number.ensures ∙ ap (λ a. line_number x a c.args.p.now.index) c.axis_by.ensures in
     let p = c.requires.0 in
     record {
       block = (
@@ -51,6 +51,6 @@ returns g c =
     let f = g.H.Hash.meaning in
     let p = c.args.p.now in
     let roots = c.args.roots.now in
-    let line : c.line-number.result ≡ line_number x (axis_by p.axis) p.index = c.line-number.ensures ∙ ap (λ a. line_number x a p.index) c.axis-by.ensures in
+    let line : c.line_number.result ≡ line_number x (axis_by p.axis) p.index = c.line_number.ensures ∙ ap (λ a. line_number x a p.index) c.axis_by.ensures in
     subst (λ i. Finds f (from_leaf (depth x + 1) i p.path.now) (from_leaf (depth x + 1) i (data_path f x roots i)) p.root.now (slot i roots)
-    c.compare-roots.result c.args.string-a.now c.args.string-b.now c.compare-roots.new.string-a c.compare-roots.new.string-b) line c.compare-roots.ensures
+    c.compare_roots.result c.args.string_a.now c.args.string_b.now c.compare_roots.new.string_a c.compare_roots.new.string_b) line c.compare_roots.ensures

@@ -18,8 +18,8 @@ returns g c =
     let r = c.requires.room in
     let read = slot_cut n roots in
     let within : digest_len * n + digest_len ≤ length roots = omega arith in
-    let long : length c.put-data-path.new.path ≡ data_path_len x = c.put-data-path.auto.path ∙ r.1.0 in
+    let long : length c.put_data_path.new.path ≡ data_path_len x = c.put_data_path.auto.path ∙ r.1.0 in
     finds_claim f (depth x + 1) n n c.args.root.now (take (digest_len * n + digest_len - digest_len * n) (drop (digest_len * n) roots)) (slot n roots)
-    c.args.path.now c.put-data-path.new.path _ _ _ _ _ _ b.1.1.1 long refl read c.put-data-path.ensures
-    (c.find-collision.ensures.finds
+    c.args.path.now c.put_data_path.new.path _ _ _ _ _ _ b.1.1.1 long refl read c.put_data_path.ensures
+    (c.find_collision.ensures.finds
     (one_fits digest_len (depth x + 1) _ _ _ _ _ _ _ _ (omega arith) b.1.1.0 (ap length read ∙ slot_length n roots within) b.1.1.1 long refl refl r.1.1.0 r.1.1.1))

@@ -8,5 +8,5 @@ returns g c =
     let h = c.args.h.now in
     let p = c.requires in
     path_cut g.H.Hash.meaning (fields_of h) h.width (c.lengths-depth.result.depth + 1) (ap (λ l. l.depth + 1) c.lengths-depth.ensures) c.args.roots.now p.1.0
-    c.args.line c.args.tree.now c.value-tree.new.tree c.args.path.now _ p.0 p.1.1.0 c.value-tree.auto.tree p.1.1.1
-    c.value-tree.ensures.written c.tree-path.ensures.written
+    c.args.line c.args.tree.now c.value_tree.new.tree c.args.path.now _ p.0 p.1.1.0 c.value_tree.auto.tree p.1.1.1
+    c.value_tree.ensures.written c.tree_path.ensures.written

@@ -15,8 +15,8 @@ slice-bounds-own-end g c =
     let l : c.lengths-len.result.path ≤ 416 = omega arith in
     l
 
-pub compare-evidence-requires : goal.compare-evidence-requires
-compare-evidence-requires g c =
+pub compare_evidence-requires : goal.compare_evidence-requires
+compare_evidence-requires g c =
     let h = c.args.h.now in
     let w = width (fields_of h) in
     let m = measured (fields_of h) c.lengths-len.result h.width h.size c.lengths-len.ensures in
@@ -26,8 +26,8 @@ compare-evidence-requires g c =
     let p = c.args.w.now.place in
     record {
       cell = (
-        subst (λ r. r < w) (sym c.witness-cell.ensures.row) (row_below axis w i p c.requires.cell.0 c.requires.cell.1.0),
-        (subst (λ r. r < w) (sym c.witness-cell.ensures.col) (col_below axis w i p c.requires.cell.0 c.requires.cell.1.0), c.requires.cell.1.1),
+        subst (λ r. r < w) (sym c.witness_cell.ensures.row) (row_below axis w i p c.requires.cell.0 c.requires.cell.1.0),
+        (subst (λ r. r < w) (sym c.witness_cell.ensures.col) (col_below axis w i p c.requires.cell.0 c.requires.cell.1.0), c.requires.cell.1.1),
       );
       block = (c.requires.block.0, c.requires.block.1.1);
       parts = (
@@ -39,4 +39,4 @@ compare-evidence-requires g c =
 pub returns : goal.returns
 returns g c =
     finds_at g.H.Hash.meaning (fields_of c.args.h.now) c.args.square.now _ _ _ _ _ _ _ _ _ _ _ _ _ _ _
-    c.requires.block.1.0 c.axis-by.ensures c.witness-cell.ensures.row c.witness-cell.ensures.col c.compare-evidence.ensures
+    c.requires.block.1.0 c.axis_by.ensures c.witness_cell.ensures.row c.witness_cell.ensures.col c.compare_evidence.ensures

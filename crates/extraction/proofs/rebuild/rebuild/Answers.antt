@@ -19,8 +19,8 @@ returns g c =
     let sq = square_of T x d in
     let filled : c.fill.new.square ≡ sq =
     c.fill.ensures.filled ∙ cond-true (fill_fits h.k h.s (length d) (length c.args.square.now)) _ _ (fill_granted x (length d) (length c.args.square.now) h.width h.size c.requires.0 c.requires.1.0) in
-    let roots : c.square-roots.new.roots ≡ roots_of f x sq =
-    c.square-roots.ensures.written
+    let roots : c.square_roots.new.roots ≡ roots_of f x sq =
+    c.square_roots.ensures.written
     ∙ cond-true (square_fits x (length c.fill.new.square) (length c.args.roots.now)) _ _
     (and_from _ _ (eq-eqb _ _ (c.fill.auto.square ∙ c.requires.1.0)) (eq-eqb _ _ c.requires.1.1))
     ∙ ap (roots_of f x) filled in
@@ -28,5 +28,5 @@ returns g c =
       square = filled;
       roots = roots;
       stands = (stand f g.met.H.Hash.sized x h.width T g.met.C.Code.first g.met.C.Code.second d (λ n. omega (arith, c.type-inv.shares n)) h.size c.requires.0).0;
-      answer = c.is-header-of.ensures ∙ ap (λ r. bytes_eq (data_root_of f x r) h.data_root) roots;
+      answer = c.is_header_of.ensures ∙ ap (λ r. bytes_eq (data_root_of f x r) h.data_root) roots;
     }

@@ -7,15 +7,15 @@ use Rattle.extraction.specs.Extracted.{agrees}
 use Rattle.extraction.proofs.Against.{against_later, against_here, against_none, some_witness}
 use Rattle.extraction.proofs.shares.against_below.Goals as goal
 
-pub returns-then-not-has-share : goal.returns-then-not-has-share
-returns-then-not-has-share c =
+pub returns-then-not-has_share : goal.returns-then-not-has_share
+returns-then-not-has_share c =
     let h = fields_of c.args.h.now in
     let ws = c.args.p.now.witnesses.now in
     let test = agrees h c.args.square.now (case_of h c.args.p.now).claim in
     let at : ◌≡◌ (values_of c.in-Some.w) (witness_at h ws c.loop-i.i) =
     some_witness _ _ (c.in-Some.ensures ∙ witness_found h ws c.loop-i.i c.requires.0.witnesses_long (omega arith)) in
     ap Some at ∙ sym (c.loop-i.invariant
-    ∙ against_here test (witness_at h ws) c.loop-i.i c.args.n (omega arith) (ap test (sym at) ∙ sym c.if-not-has-share.ensures))
+    ∙ against_here test (witness_at h ws) c.loop-i.i c.args.n (omega arith) (ap test (sym at) ∙ sym c.if-not-has_share.ensures))
 
 pub unreachable-requires : goal.unreachable-requires
 unreachable-requires c =
@@ -29,7 +29,7 @@ loop-i-preserved c =
     let at : ◌≡◌ (values_of c.in-Some.w) (witness_at h ws c.loop-i.i) =
     some_witness _ _ (c.in-Some.ensures ∙ witness_found h ws c.loop-i.i c.requires.0.witnesses_long (omega arith)) in
     c.loop-i.invariant
-    ∙ against_later test (witness_at h ws) c.loop-i.i c.args.n (omega arith) (ap test (sym at) ∙ sym c.if-not-has-share.ensures)
+    ∙ against_later test (witness_at h ws) c.loop-i.i c.args.n (omega arith) (ap test (sym at) ∙ sym c.if-not-has_share.ensures)
 
 pub returns : goal.returns
 returns c =

@@ -18,27 +18,27 @@ returns-in-Some g c =
     let p = case_of h c.args.p.now in
     let f = g.H.Hash.meaning in
     let first = sym c.in-Some.ensures in
-    let rises : rising_below (width h) (places_of p.witnesses) ≡ true = ap (rising_below (width h)) (sym c.put-places.ensures) ∙ sym c.if-not-are-rising.ensures in
+    let rises : rising_below (width h) (places_of p.witnesses) ≡ true = ap (rising_below (width h)) (sym c.put_places.ensures) ∙ sym c.if-not-are_rising.ensures in
     record {
-      answer = judged_unverified f g.C.Code.weight h p (sym c.if-not-is-committed.ensures) rises c.in-Some.i first;
+      answer = judged_unverified f g.C.Code.weight h p (sym c.if-not-is_committed.ensures) rises c.in-Some.i first;
       decides = decides f g.C.Code.table g.C.Code.weight g.met.C.Code.second h c.args.h.now.width p (length-map-range_with_len (witness_at h c.args.p.now.witnesses.now) 0 h.k)
           (λ r e. some_none c.in-Some.i (sym first ∙ e));
     }
 
-pub returns-then-has-root : goal.returns-then-has-root
-returns-then-has-root g c =
+pub returns-then-has_root : goal.returns-then-has_root
+returns-then-has_root g c =
     let h = fields_of c.args.h.now in
     let p = case_of h c.args.p.now in
     let f = g.H.Hash.meaning in
     let W = g.C.Code.weight in
     let T = g.C.Code.table in
-    let places = c.put-places.ensures in
-    let rises : rising_below (width h) (places_of p.witnesses) ≡ true = ap (rising_below (width h)) (sym places) ∙ sym c.if-not-are-rising.ensures in
+    let places = c.put_places.ensures in
+    let rises : rising_below (width h) (places_of p.witnesses) ≡ true = ap (rising_below (width h)) (sym places) ∙ sym c.if-not-are_rising.ensures in
     record {
-      answer = judged_last f W h p (sym c.if-not-is-committed.ensures) rises (sym c.first-unverified.ensures ∙ c.in-default.is) true
-          (ap (λ ps. bytes_eq (value_root f (depth h) h.s (word_by W h.k h.s ps (shares_of p.witnesses))) p.claim.root) (sym places) ∙ sym c.if-has-root.ensures.answer);
+      answer = judged_last f W h p (sym c.if-not-is_committed.ensures) rises (sym c.first_unverified.ensures ∙ c.in-default.is) true
+          (ap (λ ps. bytes_eq (value_root f (depth h) h.s (word_by W h.k h.s ps (shares_of p.witnesses))) p.claim.root) (sym places) ∙ sym c.if-has_root.ensures.answer);
       decides = decides f T W g.met.C.Code.second h c.args.h.now.width p (length-map-range_with_len (witness_at h c.args.p.now.witnesses.now) 0 h.k)
-          (λ r e. subst (λ ps. Through T h.k h.s ps (shares_of p.witnesses) (word_by W h.k h.s ps (shares_of p.witnesses))) places c.has-root.ensures.through);
+          (λ r e. subst (λ ps. Through T h.k h.s ps (shares_of p.witnesses) (word_by W h.k h.s ps (shares_of p.witnesses))) places c.has_root.ensures.through);
     }
 
 pub returns : goal.returns
@@ -48,11 +48,11 @@ returns g c =
     let f = g.H.Hash.meaning in
     let W = g.C.Code.weight in
     let T = g.C.Code.table in
-    let places = c.put-places.ensures in
-    let rises : rising_below (width h) (places_of p.witnesses) ≡ true = ap (rising_below (width h)) (sym places) ∙ sym c.if-not-are-rising.ensures in
+    let places = c.put_places.ensures in
+    let rises : rising_below (width h) (places_of p.witnesses) ≡ true = ap (rising_below (width h)) (sym places) ∙ sym c.if-not-are_rising.ensures in
     record {
-      answer = judged_last f W h p (sym c.if-not-is-committed.ensures) rises (sym c.first-unverified.ensures ∙ c.in-default.is) false
-          (ap (λ ps. bytes_eq (value_root f (depth h) h.s (word_by W h.k h.s ps (shares_of p.witnesses))) p.claim.root) (sym places) ∙ sym c.if-has-root.ensures.answer);
+      answer = judged_last f W h p (sym c.if-not-is_committed.ensures) rises (sym c.first_unverified.ensures ∙ c.in-default.is) false
+          (ap (λ ps. bytes_eq (value_root f (depth h) h.s (word_by W h.k h.s ps (shares_of p.witnesses))) p.claim.root) (sym places) ∙ sym c.if-has_root.ensures.answer);
       decides = decides f T W g.met.C.Code.second h c.args.h.now.width p (length-map-range_with_len (witness_at h c.args.p.now.witnesses.now) 0 h.k)
-          (λ r e. subst (λ ps. Through T h.k h.s ps (shares_of p.witnesses) (word_by W h.k h.s ps (shares_of p.witnesses))) places c.has-root.ensures.through);
+          (λ r e. subst (λ ps. Through T h.k h.s ps (shares_of p.witnesses) (word_by W h.k h.s ps (shares_of p.witnesses))) places c.has_root.ensures.through);
     }

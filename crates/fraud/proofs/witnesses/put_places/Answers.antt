@@ -8,7 +8,7 @@ pub loop-i-preserved : goal.loop-i-preserved
 loop-i-preserved c =
     below_more _ _
     (λ k h. let ne : k ≢ c.loop-i.i = omega arith in rw get_or-set_other (c.loop-i.invariant k h))
-    (let lt : c.loop-i.i < length c.loop-i.places = omega arith in rw get_or-set_same (ap (λ w. w.place) c.take-witness.ensures))
+    (let lt : c.loop-i.i < length c.loop-i.places = omega arith in rw get_or-set_same (ap (λ w. w.place) c.take_witness.ensures))
 
 pub returns : goal.returns
 returns c =

@@ -24,8 +24,8 @@ slice-bounds-space-end g c =
     let r : c.lengths-n.result.axis_tree ≤ 4064 = omega arith in
     r
 
-pub word-root-in-requires : goal.word-root-in-requires
-word-root-in-requires g c =
+pub word_root_in-requires : goal.word_root_in-requires
+word_root_in-requires g c =
     let h = c.args.h.now in
     let n = c.lengths-n.result in
     let e = c.lengths-n.ensures in
@@ -42,5 +42,5 @@ word-root-in-requires g c =
 
 pub returns : goal.returns
 returns g c =
-    let top = c.word-root-in.ensures.value in
-    record { answer = c.same.ensures ∙ ap (λ t. bytes_eq t c.args.root.now) top; through = c.word-root-in.ensures.through }
+    let top = c.word_root_in.ensures.value in
+    record { answer = c.same.ensures ∙ ap (λ t. bytes_eq t c.args.root.now) top; through = c.word_root_in.ensures.through }

@@ -15,9 +15,9 @@ returns g c =
     let records = c.args.records.now in
     let n = length c.args.sum.now in
     let p = c.requires.fits in
-    let sum : c.apply-row.new.sum ≡ row_sum row c.args.size 9 n records =
-    c.apply-row.ensures.written ∙ cond-true _ _ _ (row_fits_lem (length row) (length records) c.args.size 9 n p.0 p.1.1.0 p.1.0) in
-    let few : length c.apply-row.new.sum ≤ parts_limit = omega (arith, ap length sum, row_sum_length row c.args.size 9 n records) in
-    let made : c.leaf-digest.new.out ≡ leaf_of plain_rule f (row_sum row c.args.size 9 n records) =
-    c.leaf-digest.ensures.written ∙ out_ok (length c.apply-row.new.sum) _ _ few refl ∙ ap (leaf_of plain_rule f) sum in
+    let sum : c.apply_row.new.sum ≡ row_sum row c.args.size 9 n records =
+    c.apply_row.ensures.written ∙ cond-true _ _ _ (row_fits_lem (length row) (length records) c.args.size 9 n p.0 p.1.1.0 p.1.0) in
+    let few : length c.apply_row.new.sum ≤ parts_limit = omega (arith, ap length sum, row_sum_length row c.args.size 9 n records) in
+    let made : c.leaf_digest.new.out ≡ leaf_of plain_rule f (row_sum row c.args.size 9 n records) =
+    c.leaf_digest.ensures.written ∙ out_ok (length c.apply_row.new.sum) _ _ few refl ∙ ap (leaf_of plain_rule f) sum in
     written_entry c.args.i _ _ c.args.entries.now _ c.splice.ensures.written made (ap length made ∙ g.met.H.Hash.sized _) (omega arith)

@@ -11,5 +11,5 @@ returns g c =
     let d = c.args.depth in
     let leaf : ℕ → Node = λ j. leaf_of plain_rule f (row_sum (share c.args.k j c.args.rows.now) c.args.size 9 (length c.args.sum.now) c.args.records.now) in
     let deep : d ≤ 16 = omega arith in
-    let tree = grown_over f leaf d c.put-cells.new.entries _ deep (omega arith) (λ j l. c.put-cells.ensures j (omega arith)) c.grow.ensures.written in
-    root_cut f g.met.H.Hash.sized leaf d _ c.args.top.now _ deep (λ i l. g.met.H.Hash.sized _) tree (omega arith) c.tree-root.ensures.written
+    let tree = grown_over f leaf d c.put_cells.new.entries _ deep (omega arith) (λ j l. c.put_cells.ensures j (omega arith)) c.grow.ensures.written in
+    root_cut f g.met.H.Hash.sized leaf d _ c.args.top.now _ deep (λ i l. g.met.H.Hash.sized _) tree (omega arith) c.tree_root.ensures.written

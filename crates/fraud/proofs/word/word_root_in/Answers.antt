@@ -16,16 +16,16 @@ use Rattle.fraud.specs.Check.{witnesses_in}
 use Rattle.fraud.proofs.Words.{rows_are, root_is, word_through, all_shares_long, all_shares_small}
 use Rattle.fraud.proofs.word.word_root_in.Goals as goal
 
-pub overflow-add-size : goal.overflow-add-size
-overflow-add-size g c =
+pub overflow_add-size : goal.overflow_add-size
+overflow_add-size g c =
     let h = c.args.h.now in
     let e = ap (λ l. l.witness_body) c.lengths-n.ensures in
     let m = body_most (fields_of h) h.size in
     let b : c.lengths-n.result.witness_body ≤ 1000 = omega arith in
     search rules
 
-pub root-of-rows-requires : goal.root-of-rows-requires
-root-of-rows-requires g c =
+pub root_of_rows-requires : goal.root_of_rows-requires
+root_of_rows-requires g c =
     let h = c.args.h.now in
     let n = c.lengths-n.result in
     let m = measured (fields_of h) n h.width h.size c.lengths-n.ensures in
@@ -55,7 +55,7 @@ returns g c =
     let rows = rows_are W h.k ps c.args.rows.now c.weights.new.rows c.requires.places.0 h.width c.requires.places.1.0 c.requires.room.0 c.weights.ensures in
     let most = width_most h.k h.width in
     record {
-      value = c.root-of-rows.ensures
+      value = c.root_of_rows.ensures
           ∙ ap (λ d. root (join_of plain_rule f) d (λ j. leaf_of plain_rule f (row_sum (share h.k j c.weights.new.rows) (6 + n.witness_body) 9 (length c.args.sum.now) ws))) deep
           ∙ ap (λ r. root (join_of plain_rule f) (depth x) (λ j. leaf_of plain_rule f (row_sum (share h.k j r) (6 + n.witness_body) 9 (length c.args.sum.now) ws))) rows
           ∙ ap (λ z. root (join_of plain_rule f) (depth x) (λ j. leaf_of plain_rule f (row_sum (share h.k j (weight_table W h.k ps)) z 9 (length c.args.sum.now) ws))) size

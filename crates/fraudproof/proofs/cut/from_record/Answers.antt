@@ -3,8 +3,8 @@ use Rattle.std.proofs.lemmas.List.{take_all}
 use Rattle.fraudproof.proofs.Records.{record_inside}
 use Rattle.fraudproof.proofs.cut.from_record.Goals as goal
 
-pub overflow-mul-result : goal.overflow-mul-result
-overflow-mul-result c =
+pub overflow_mul-result : goal.overflow_mul-result
+overflow_mul-result c =
     let l : c.args.i * c.args.size + c.args.size ≤ length c.args.records.now = record_inside _ _ _ c.requires.1 in search rules
 
 pub slice-bounds-result-count : goal.slice-bounds-result-count

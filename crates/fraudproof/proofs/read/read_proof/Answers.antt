@@ -16,12 +16,12 @@ unreachable-requires c =
     let d = claim_due (fields_of c.args.h.now) 0 c.args.bytes.now _ _ (sym c.in-ok-item.ensures.value) in
     not_claim c.in-ok-item.item d.0 d.1 c.in-default.not-Claim
 
-pub returns-in-err-read-witnesses : goal.returns-in-err-read-witnesses
-returns-in-err-read-witnesses c =
-    let p = err_from_is_err_and c.from-residual-in-err-read-witnesses.result c.from-residual-in-err-read-witnesses.ensures.1 in
+pub returns-in-err-read_witnesses : goal.returns-in-err-read_witnesses
+returns-in-err-read_witnesses c =
+    let p = err_from_is_err_and c.from-residual-in-err-read_witnesses.result c.from-residual-in-err-read_witnesses.ensures.1 in
     let v : values.Claim = record { axis = c.in-Claim.axis; index = c.in-Claim.index; root = c.in-Claim.root.now; path = c.in-Claim.path.now } in
     rw (p.1, p.2) record {
-      answer = with_claim_lem (fields_of c.args.h.now) c.args.bytes.now _ _ c.in-ok-item.ensures.value v (ap value_of c.in-Claim.is) _ c.in-err-read-witnesses.ensures.answer;
+      answer = with_claim_lem (fields_of c.args.h.now) c.args.bytes.now _ _ c.in-ok-item.ensures.value v (ap value_of c.in-Claim.is) _ c.in-err-read_witnesses.ensures.answer;
       formed = tt;
       place = tt;
     }
@@ -29,7 +29,7 @@ returns-in-err-read-witnesses c =
 pub returns : goal.returns
 returns c =
     let v : values.Claim = record { axis = c.in-Claim.axis; index = c.in-Claim.index; root = c.in-Claim.root.now; path = c.in-Claim.path.now } in
-    let w = c.in-ok-read-witnesses.ensures in
+    let w = c.in-ok-read_witnesses.ensures in
     let r = claim_read (fields_of c.args.h.now) 0 c.args.bytes.now _ _ v (sym c.in-ok-item.ensures.value) (ap value_of c.in-Claim.is) in
     let begins = subst (Begins (fields_of c.args.h.now) (after c.args.bytes.ptr 6)) c.in-Claim.is c.in-ok-item.ensures.place.0 in
     record {

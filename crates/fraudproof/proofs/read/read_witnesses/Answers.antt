@@ -10,34 +10,34 @@ pub returns-in-err-behind : goal.returns-in-err-behind
 returns-in-err-behind c =
     let p = err_from_is_err_and c.from-residual.result c.from-residual.ensures.1 in
     rw (p.1, p.2) record {
-      answer = walk_break (fields_of c.args.h.now) c.args.h.now.k c.args.start c.args.records.now c.loop-n.-n c.loop-n.at c.loop-n.rest.now c.loop-n.invariant (omega arith) _ c.in-err-behind.ensures.value;
+      answer = walk_break (fields_of c.args.h.now) c.args.h.now.k c.args.start c.args.records.now c.loop-n._n c.loop-n.at c.loop-n.rest.now c.loop-n.invariant (omega arith) _ c.in-err-behind.ensures.value;
       form = tt;
     }
 
-pub overflow-add-at : goal.overflow-add-at
-overflow-add-at c =
+pub overflow_add-at : goal.overflow_add-at
+overflow_add-at c =
     let w = c.loop-n.invariant in
-    let long : length c.loop-n.rest.now + c.loop-n.-n * witness_len (fields_of c.args.h.now) ≡ length c.args.records.now = omega (arith, ap length w.rest-is, length-drop (c.loop-n.-n * witness_len (fields_of c.args.h.now)) c.args.records.now, w.inside) in
+    let long : length c.loop-n.rest.now + c.loop-n._n * witness_len (fields_of c.args.h.now) ≡ length c.args.records.now = omega (arith, ap length w.rest-is, length-drop (c.loop-n._n * witness_len (fields_of c.args.h.now)) c.args.records.now, w.inside) in
     let pre : c.args.start + length c.args.records.now < 2 ^ 64 = c.requires in
     omega (arith, w.at-is)
 
 pub loop-n-preserved : goal.loop-n-preserved
 loop-n-preserved c =
-    walk_more (fields_of c.args.h.now) c.args.h.now.k c.args.start c.args.records.now c.loop-n.-n c.loop-n.at c.loop-n.rest.now c.loop-n.invariant (omega arith) _ _ c.in-ok-behind.ensures.value _ refl
+    walk_more (fields_of c.args.h.now) c.args.h.now.k c.args.start c.args.records.now c.loop-n._n c.loop-n.at c.loop-n.rest.now c.loop-n.invariant (omega arith) _ _ c.in-ok-behind.ensures.value _ refl
 
-pub returns-in-err-read-at : goal.returns-in-err-read-at
-returns-in-err-read-at c =
-    let p = err_from_is_err_and c.from-residual-in-err-read-at.result c.from-residual-in-err-read-at.ensures.1 in
+pub returns-in-err-read_at : goal.returns-in-err-read_at
+returns-in-err-read_at c =
+    let p = err_from_is_err_and c.from-residual-in-err-read_at.result c.from-residual-in-err-read_at.ensures.1 in
     rw (p.1, p.2) record {
-      answer = walk_over (fields_of c.args.h.now) c.args.h.now.k c.args.start c.args.records.now c.loop-n.-n c.loop-n.at c.loop-n.rest.now c.loop-n.invariant (omega arith) (omega arith) c.if-not-is-empty.ensures _ c.in-err-read-at.ensures.value;
+      answer = walk_over (fields_of c.args.h.now) c.args.h.now.k c.args.start c.args.records.now c.loop-n._n c.loop-n.at c.loop-n.rest.now c.loop-n.invariant (omega arith) (omega arith) c.if-not-is_empty.ensures _ c.in-err-read_at.ensures.value;
       form = tt;
     }
 
-pub returns-in-ok-read-at : goal.returns-in-ok-read-at
-returns-in-ok-read-at c =
-    absurd (nothing_read (fields_of c.args.h.now) c.loop-n.at c.loop-n.rest.now _ (sym c.in-ok-read-at.ensures.value))
+pub returns-in-ok-read_at : goal.returns-in-ok-read_at
+returns-in-ok-read_at c =
+    absurd (nothing_read (fields_of c.args.h.now) c.loop-n.at c.loop-n.rest.now _ (sym c.in-ok-read_at.ensures.value))
 
-pub returns-else-not-is-empty : goal.returns-else-not-is-empty
-returns-else-not-is-empty c =
-    let e = walk_end (fields_of c.args.h.now) c.args.h.now.k c.args.start c.args.records.now c.loop-n.-n c.loop-n.at c.loop-n.rest.now c.loop-n.invariant (omega arith) (omega arith) refl c.if-not-is-empty.ensures in
+pub returns-else-not-is_empty : goal.returns-else-not-is_empty
+returns-else-not-is_empty c =
+    let e = walk_end (fields_of c.args.h.now) c.args.h.now.k c.args.start c.args.records.now c.loop-n._n c.loop-n.at c.loop-n.rest.now c.loop-n.invariant (omega arith) (omega arith) refl c.if-not-is_empty.ensures in
     record { answer = e.0; form = e.1 }

@@ -3,4 +3,4 @@ use Rattle.fraudproof.proofs.Forms.{Walked}
 use Rattle.fraudproof.proofs.read.read_witnesses.Given as goal
 
 abbrev pub invariant-loop-n : goal.invariant-loop-n
-invariant-loop-n l = Walked (fields_of l.h) l.h.k l.start l.records l.-n l.at l.rest
+invariant-loop-n l = Walked (fields_of l.h) l.h.k l.start l.records l._n l.at l.rest

@@ -17,18 +17,18 @@ turn i r x x' y p h d e =
 pub loop-i-init : goal.loop-i-init
 loop-i-init c = (omega arith, times_mul c.args.a c.args.b (omega arith) (omega arith))
 
-pub overflow-mul-sum : goal.overflow-mul-sum
-overflow-mul-sum c = record { fits = bit_lt (c.loop-i.rest % 2) c.loop-i.power (omega arith) c.loop-i.invariant.0 }
+pub overflow_mul-sum : goal.overflow_mul-sum
+overflow_mul-sum c = record { fits = bit_lt (c.loop-i.rest % 2) c.loop-i.power (omega arith) c.loop-i.invariant.0 }
 
 pub loop-i-preserved : goal.loop-i-preserved
 loop-i-preserved c = (
-  subst (λ (x : ℕ). x < 256) (sym c.times-x-power.ensures) (mul_byte 2 c.loop-i.power),
-  turn c.loop-i.-i c.loop-i.sum c.loop-i.power c.times-x-power.result c.loop-i.rest (mul c.args.a c.args.b)
-      c.loop-i-test.true c.times-x-power.ensures c.loop-i.invariant.1,
+  subst (λ (x : ℕ). x < 256) (sym c.times_x-power.ensures) (mul_byte 2 c.loop-i.power),
+  turn c.loop-i._i c.loop-i.sum c.loop-i.power c.times_x-power.result c.loop-i.rest (mul c.args.a c.args.b)
+      c.loop-i-test.true c.times_x-power.ensures c.loop-i.invariant.1,
 )
 
 pub returns : goal.returns
 unfolding times
 returns c =
-    let s : 8 - c.loop-i.-i ≡ 0 = omega arith in
+    let s : 8 - c.loop-i._i ≡ 0 = omega arith in
     sym (xor_zero_r c.loop-i.sum) ∙ ap (λ (n : ℕ). bit_xor c.loop-i.sum (times n c.loop-i.power c.loop-i.rest)) (sym s) ∙ c.loop-i.invariant.1

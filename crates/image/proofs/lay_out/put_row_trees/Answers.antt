@@ -5,8 +5,8 @@ use Rattle.image.specs.Image.{row_trees}
 use Rattle.image.proofs.Trees.{trees_none, trees_more}
 use Rattle.image.proofs.lay_out.put_row_trees.Goals as goal
 
-pub put-row-tree-requires : goal.put-row-tree-requires
-put-row-tree-requires g c =
+pub put_row_tree-requires : goal.put_row_tree-requires
+put_row_tree-requires g c =
     record {
       tree = (c.requires.tree.0, (c.requires.tree.1.0, omega arith));
       room = (c.requires.room.0, omega (arith, share_inside c.loop-row.row c.args.rows c.args.size c.loop-row-test.true));
@@ -26,7 +26,7 @@ loop-row-preserved g c =
     let inside = share_inside row c.args.rows size c.loop-row-test.true in
     let more : (row + 1) * size ≡ row * size + size = add-mul row 1 size ∙ ap (λ x. row * size + x) (one-mul size) in
     trees_more g.H.Hash.meaning g.met.H.Hash.sized (fields_of h) h.width c.args.square.now row (c.args.start + row * size) (c.args.start + (row + 1) * size)
-    (take c.args.start c.args.image.now) c.loop-row.image _ c.loop-row.invariant c.put-row-tree.ensures (omega arith) (omega arith)
+    (take c.args.start c.args.image.now) c.loop-row.image _ c.loop-row.invariant c.put_row_tree.ensures (omega arith) (omega arith)
 
 pub returns : goal.returns
 returns g c =

@@ -15,8 +15,8 @@ loop-h-init c =
     let d = c.args.depth in
     (ap (λ k. path_of k c.args.place c.args.tree.now) (sub-zero d), c.requires.0 ∙ ap (λ k. 2 ^ k) (sym (sub-zero d)), omega arith, omega arith, omega arith)
 
-pub copy-entry-requires : goal.copy-entry-requires
-copy-entry-requires c =
+pub copy_entry-requires : goal.copy_entry-requires
+copy_entry-requires c =
     let inv = c.loop-h.invariant in
     let half = halved c.args.depth c.loop-h.h c.loop-h.width c.loop-h-test.true inv.1 in
     let low : flip c.loop-h.place < c.loop-h.width = flip_below c.loop-h.place _ c.loop-h.width inv.2 half.0 in
@@ -34,7 +34,7 @@ loop-h-preserved c =
     let low : flip p < w = flip_below p _ w inv.2 half.0 in
     let within : digest_len * (s + flip p) + digest_len ≤ length tree = omega arith in (
       path_step c.args.depth h p s w tree c.loop-h.out _ _ c.loop-h-test.true inv.1 (omega arith) (slot_length (s + flip p) tree within)
-          (c.copy-entry.ensures ∙ ap (λ q. over (digest_len * h) (slot (s + q) tree) c.loop-h.out) c.sibling.ensures) inv.0,
+          (c.copy_entry.ensures ∙ ap (λ q. over (digest_len * h) (slot (s + q) tree) c.loop-h.out) c.sibling.ensures) inv.0,
       half.1,
       omega arith,
       omega arith,

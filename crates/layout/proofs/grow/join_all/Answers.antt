@@ -11,9 +11,9 @@ loop-i-preserved g c =
     let J = join_of plain_rule g.H.Hash.meaning in
     let n = c.args.n in
     let i = c.loop-i.i in
-    let before = grown_before J n i c.loop-i.tree _ (omega arith) (omega arith) (g.met.H.Hash.sized _) c.join-pair.ensures in (
+    let before = grown_before J n i c.loop-i.tree _ (omega arith) (omega arith) (g.met.H.Hash.sized _) c.join_pair.ensures in (
       λ j l. before j (omega arith) ∙ c.loop-i.invariant.0 j l,
-      grown_more J n i c.loop-i.tree _ (omega arith) (omega arith) (g.met.H.Hash.sized _) c.join-pair.ensures c.loop-i.invariant.1,
+      grown_more J n i c.loop-i.tree _ (omega arith) (omega arith) (g.met.H.Hash.sized _) c.join_pair.ensures c.loop-i.invariant.1,
     )
 
 pub returns : goal.returns

@@ -19,8 +19,8 @@ returns g c =
     let ln : length first ≡ digest_len = ap length l ∙ slot_length (2 * i) tree (omega arith) in
     let rn : length second ≡ digest_len = ap length r ∙ slot_length (2 * i + 1) tree (omega arith) in
     let few : length first + length second ≤ parts_limit = omega arith in
-    let made : c.node-digest.new.out ≡ J (slot (2 * i) tree) (slot (2 * i + 1) tree) =
-    c.node-digest.ensures.written
+    let made : c.node_digest.new.out ≡ J (slot (2 * i) tree) (slot (2 * i + 1) tree) =
+    c.node_digest.ensures.written
     ∙ out_ok (length first + length second) _ (J first second) few refl
     ∙ ap (λ z. J z second) l
     ∙ ap (J (slot (2 * i) tree)) r in

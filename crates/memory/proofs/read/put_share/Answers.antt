@@ -7,8 +7,8 @@ use Rattle.header.proofs.Measures.{measured}
 use Rattle.memory.proofs.Spots.{spot}
 use Rattle.memory.proofs.read.put_share.Goals as goal
 
-pub overflow-mul-at : goal.overflow-mul-at
-overflow-mul-at c =
+pub overflow_mul-at : goal.overflow_mul-at
+overflow_mul-at c =
     let h = c.args.h.now in
     let n = c.lengths-n.result in
     let m = measured (fields_of h) n h.width h.size c.lengths-n.ensures in
@@ -16,8 +16,8 @@ overflow-mul-at c =
     let s = spot n.width n.share c.args.cell.row c.args.cell.col (omega arith) (omega arith) m.wide m.sized in
     omega arith
 
-pub overflow-add-at : goal.overflow-add-at
-overflow-add-at c =
+pub overflow_add-at : goal.overflow_add-at
+overflow_add-at c =
     let h = c.args.h.now in
     let n = c.lengths-n.result in
     let m = measured (fields_of h) n h.width h.size c.lengths-n.ensures in
@@ -25,8 +25,8 @@ overflow-add-at c =
     let s = spot n.width n.share c.args.cell.row c.args.cell.col (omega arith) (omega arith) m.wide m.sized in
     omega arith
 
-pub overflow-mul-at-2 : goal.overflow-mul-at-2
-overflow-mul-at-2 c =
+pub overflow_mul-at-2 : goal.overflow_mul-at-2
+overflow_mul-at-2 c =
     let h = c.args.h.now in
     let n = c.lengths-n.result in
     let m = measured (fields_of h) n h.width h.size c.lengths-n.ensures in
@@ -34,8 +34,8 @@ overflow-mul-at-2 c =
     let s = spot n.width n.share c.args.cell.row c.args.cell.col (omega arith) (omega arith) m.wide m.sized in
     omega arith
 
-pub overflow-mul-at-3 : goal.overflow-mul-at-3
-overflow-mul-at-3 c =
+pub overflow_mul-at-3 : goal.overflow_mul-at-3
+overflow_mul-at-3 c =
     let h = c.args.h.now in
     let n = c.lengths-n.result in
     let m = measured (fields_of h) n h.width h.size c.lengths-n.ensures in
@@ -43,8 +43,8 @@ overflow-mul-at-3 c =
     let s = spot n.width n.share c.args.cell.row c.args.cell.col (omega arith) (omega arith) m.wide m.sized in
     omega arith
 
-pub overflow-add-at-2 : goal.overflow-add-at-2
-overflow-add-at-2 c =
+pub overflow_add-at-2 : goal.overflow_add-at-2
+overflow_add-at-2 c =
     let h = c.args.h.now in
     let n = c.lengths-n.result in
     let m = measured (fields_of h) n h.width h.size c.lengths-n.ensures in
@@ -52,8 +52,8 @@ overflow-add-at-2 c =
     let s = spot n.width n.share c.args.cell.row c.args.cell.col (omega arith) (omega arith) m.wide m.sized in
     omega arith
 
-pub slice-bounds-copy-from-slice-end : goal.slice-bounds-copy-from-slice-end
-slice-bounds-copy-from-slice-end c =
+pub slice-bounds-copy_from_slice-end : goal.slice-bounds-copy_from_slice-end
+slice-bounds-copy_from_slice-end c =
     let h = c.args.h.now in
     let n = c.lengths-n.result in
     let m = measured (fields_of h) n h.width h.size c.lengths-n.ensures in
@@ -69,6 +69,6 @@ returns c =
     let n = c.lengths-n.result in
     let i = c.args.cell.row * n.width + c.args.cell.col in
     let image = c.args.image.now in
-    c.copy-from-slice.ensures.after
+    c.copy_from_slice.ensures.after
     ∙ share_read n.share i image
     ∙ ap (λ l. share l.share (c.args.cell.row * l.width + c.args.cell.col) image) c.lengths-n.ensures

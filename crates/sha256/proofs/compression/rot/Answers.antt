@@ -3,4 +3,4 @@ use Rattle.sha256.proofs.compression.rot.Goals as goal
 
 pub returns : goal.returns
 unfolding rotr
-returns c = c.rotate-right.ensures
+returns c = c.rotate_right.ensures

@@ -21,7 +21,7 @@ loop-j-preserved c =
     let m = c.args.m.now in
     let w = c.loop-j.w in
     let j = c.loop-j.j in
-    (length-set _ _ _ ∙ inv.0, ap (λ x. take (j + 1) (set w j x)) c.next-word.ensures ∙ extend_more m w j (omega arith) (omega (arith, inv.0)) inv.1)
+    (length-set _ _ _ ∙ inv.0, ap (λ x. take (j + 1) (set w j x)) c.next_word.ensures ∙ extend_more m w j (omega arith) (omega (arith, inv.0)) inv.1)
 
 pub returns : goal.returns
 returns c =

@@ -6,7 +6,7 @@ use Rattle.sha256.proofs.digest.put_words.Goals as goal
 pub loop-i-preserved : goal.loop-i-preserved
 loop-i-preserved c =
     let i = c.loop-i.i in
-    ap (λ o. take (4 * (i + 1)) o) c.put-word.ensures
+    ap (λ o. take (4 * (i + 1)) o) c.put_word.ensures
     ∙ joined_put word_bytes c.args.words.now c.loop-i.out (word_bytes (get_or c.args.words.now i 0)) i (4 * i) (4 * (i + 1)) 4
     c.loop-i.invariant refl (omega arith) (omega arith) (omega arith)
 

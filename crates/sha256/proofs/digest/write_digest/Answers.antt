@@ -5,4 +5,4 @@ use Rattle.sha256.proofs.digest.write_digest.Goals as goal
 
 pub returns : goal.returns
 unfolding sha256
-returns c = c.put-words.ensures ∙ ap (flat_map word_bytes) c.hash-parts-v.ensures
+returns c = c.put_words.ensures ∙ ap (flat_map word_bytes) c.hash_parts-v.ensures

@@ -8,6 +8,6 @@ returns c =
     record {
       within = omega arith;
       written =
-          ap (take (zero_count c.args.len + 9)) c.put-length.ensures
+          ap (take (zero_count c.args.len + 9)) c.put_length.ensures
           ∙ pads c.args.len (length c.args.tail.now) c.clear.new.block c.clear.ensures (omega arith);
     }

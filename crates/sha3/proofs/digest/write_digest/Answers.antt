@@ -6,4 +6,4 @@ use Rattle.sha3.proofs.digest.write_digest.Goals as goal
 pub returns : goal.returns
 unfolding sha3
 returns c =
-    c.put-lanes.ensures ∙ ap (λ s. flat_map lane_bytes (get_or s 0 0 ∷ get_or s 1 0 ∷ get_or s 2 0 ∷ get_or s 3 0 ∷ [])) c.absorb-parts-s.ensures
+    c.put_lanes.ensures ∙ ap (λ s. flat_map lane_bytes (get_or s 0 0 ∷ get_or s 1 0 ∷ get_or s 2 0 ∷ get_or s 3 0 ∷ [])) c.absorb_parts-s.ensures

@@ -3,4 +3,4 @@ use Rattle.sha3.proofs.permutation.rot.Goals as goal
 
 pub returns : goal.returns
 unfolding rotl
-returns c = c.rotate-left.ensures
+returns c = c.rotate_left.ensures

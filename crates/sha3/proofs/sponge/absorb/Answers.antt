@@ -6,7 +6,7 @@ use Rattle.sha3.proofs.sponge.absorb.Goals as goal
 pub returns : goal.returns
 returns c =
     absorbed_rows c.args.s c.args.block.now _ _ _ _ _
-    (c.xor-row.ensures ∙ ap (xor_row c.args.s.r0) c.row.ensures)
-    (c.xor-row-2.ensures ∙ ap (xor_row c.args.s.r1) c.row-2.ensures)
-    (c.xor-row-3.ensures ∙ ap (xor_row c.args.s.r2) c.row-3.ensures)
+    (c.xor_row.ensures ∙ ap (xor_row c.args.s.r0) c.row.ensures)
+    (c.xor_row-2.ensures ∙ ap (xor_row c.args.s.r1) c.row-2.ensures)
+    (c.xor_row-3.ensures ∙ ap (xor_row c.args.s.r2) c.row-3.ensures)
     c.lane.ensures c.lane-2.ensures

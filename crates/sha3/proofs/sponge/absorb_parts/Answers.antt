@@ -7,5 +7,5 @@ use Rattle.sha3.proofs.sponge.absorb_parts.Goals as goal
 
 pub returns : goal.returns
 returns c =
-    padded_all padding state_after rate c.args.head.now c.args.left.now c.args.right.now _ (lanes c.all-blocks.result)
-    (ap (λ m. take m c.pad-n.new.tail) (sub-zero c.pad-n.result) ∙ c.pad-n.ensures.written) c.all-blocks.ensures
+    padded_all padding state_after rate c.args.head.now c.args.left.now c.args.right.now _ (lanes c.all_blocks.result)
+    (ap (λ m. take m c.pad-n.new.tail) (sub-zero c.pad-n.result) ∙ c.pad-n.ensures.written) c.all_blocks.ensures

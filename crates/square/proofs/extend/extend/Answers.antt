@@ -22,8 +22,8 @@ returns-in-err-h g c = record {
       stand g.H.Hash.meaning g.met.H.Hash.sized b w g.C.Code.table g.met.C.Code.first g.met.C.Code.second c.args.shares.now (λ n. omega (arith, c.type-inv.shares n)) z l;
 }
 
-pub returns-then-not-lengths-fit : goal.returns-then-not-lengths-fit
-returns-then-not-lengths-fit g c = record {
+pub returns-then-not-lengths_fit : goal.returns-then-not-lengths_fit
+returns-then-not-lengths_fit g c = record {
   answer = search rules;
   square = search rules;
   roots = search rules;
@@ -41,8 +41,8 @@ returns g c =
     let n = length c.args.square.now in
     let m = length c.args.roots.now in
     let ext = extension T c.args.k c.args.s d in
-    let h = made (record { k = c.args.k; s = c.args.s; hash_kind = c.kind-byte.result; code_kind = c.kind-byte-2.result; data_root = replicate 32 0 }) (fields_of c.in-ok-h.h) c.in-ok-h.ensures in
-    let fits : extend_fits b (length d) n m ≡ true = sym (c.if-not-lengths-fit.ensures ∙ ap (λ x. extend_fits x (length d) n m) h.same) in
+    let h = made (record { k = c.args.k; s = c.args.s; hash_kind = c.kind_byte.result; code_kind = c.kind_byte-2.result; data_root = replicate 32 0 }) (fields_of c.in-ok-h.h) c.in-ok-h.ensures in
+    let fits : extend_fits b (length d) n m ≡ true = sym (c.if-not-lengths_fit.ensures ∙ ap (λ x. extend_fits x (length d) n m) h.same) in
     let sq-is : c.fill.new.square ≡ ext = c.fill.ensures.filled ∙ cond-true (fill_fits c.args.k c.args.s (length d) n) _ _ (fill_granted f b h.wide h.sized (length d) n m fits) in
     let room : square_fits b (length ext) m ≡ true =
     ap (λ x. square_fits b x m) (sym (ap length sq-is) ∙ c.fill.auto.square) ∙ (and_parts (eqb (length d) (data_len b)) (square_fits b n m) fits).1 in

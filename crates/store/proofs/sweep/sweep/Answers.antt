@@ -7,8 +7,8 @@ use Rattle.store.specs.Meaning.{Meaning}
 use Rattle.store.specs.Sweeping.{sweep_fits, held_square, held_marks}
 use Rattle.store.proofs.sweep.sweep.Goals as goal
 
-pub sweep-in-requires : goal.sweep-in-requires
-sweep-in-requires g c =
+pub sweep_in-requires : goal.sweep_in-requires
+sweep_in-requires g c =
     let h : Fields = fields_of c.args.h.now in
     let n = c.lengths-n.result in
     let e = c.lengths-n.ensures in
@@ -16,7 +16,7 @@ sweep-in-requires g c =
     let sq = length c.args.square.now in
     let mk = length c.args.marks.now in
     let me = measured h n c.args.h.now.width c.args.h.now.size e in
-    let a = and_parts (eqb m.k h.k) (eqb m.s h.s && (eqb sq (square_len h) && eqb mk (cell_count h))) (sym c.if-not-sweep-fits.ensures) in
+    let a = and_parts (eqb m.k h.k) (eqb m.s h.s && (eqb sq (square_len h) && eqb mk (cell_count h))) (sym c.if-not-sweep_fits.ensures) in
     let b = and_parts (eqb m.s h.s) (eqb sq (square_len h) && eqb mk (cell_count h)) a.1 in
     let d = and_parts (eqb sq (square_len h)) (eqb mk (cell_count h)) b.1 in
     record {

@@ -10,14 +10,14 @@ use Rattle.store.proofs.Asking.{admit}
 use Rattle.store.proofs.Sweeps.{Cells, Marks, cells_more, marks_more, all_cells, all_marks_lem, row_below, col_below, moved}
 use Rattle.store.proofs.sweep.sweep_cells.Goals as goal
 
-pub overflow-cast-cell : goal.overflow-cast-cell
-overflow-cast-cell g c =
+pub overflow_cast-cell : goal.overflow_cast-cell
+overflow_cast-cell g c =
     let h = c.args.h.now in
     let m = measured (fields_of h) c.lengths-n.result h.width h.size c.lengths-n.ensures in
     omega (arith, row_below c.loop-i.i c.lengths-n.result.width (omega arith) (omega arith))
 
-pub overflow-cast-cell-in-loop-i : goal.overflow-cast-cell-in-loop-i
-overflow-cast-cell-in-loop-i g c =
+pub overflow_cast-cell-in-loop-i : goal.overflow_cast-cell-in-loop-i
+overflow_cast-cell-in-loop-i g c =
     let h = c.args.h.now in
     let m = measured (fields_of h) c.lengths-n.result h.width h.size c.lengths-n.ensures in
     omega (arith, col_below c.loop-i.i c.lengths-n.result.width (omega arith))

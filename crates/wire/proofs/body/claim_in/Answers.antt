@@ -5,5 +5,5 @@ use Rattle.wire.proofs.body.claim_in.Goals as goal
 pub returns : goal.returns
 returns c =
     let f = second_part 3 32 c.args.body.now in
-    let k = c.from-le-bytes.ensures in
+    let k = c.from_le_bytes.ensures in
     record { value = cc; place = search rules }

@@ -5,6 +5,6 @@ use Rattle.wire.proofs.body.header_in.Goals as goal
 pub returns : goal.returns
 returns c =
     let e = take_rest c.args.body.now 6 in
-    let k = c.from-le-bytes.ensures in
-    let s = c.from-le-bytes-2.ensures in
+    let k = c.from_le_bytes.ensures in
+    let s = c.from_le_bytes-2.ensures in
     record { value = cc; place = search rules }

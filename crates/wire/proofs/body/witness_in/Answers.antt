@@ -6,5 +6,5 @@ pub returns : goal.returns
 returns c =
     let e = first_part 3 c.args.h.now.s c.args.body.now in
     let f = second_part 3 c.args.h.now.s c.args.body.now in
-    let k = c.from-le-bytes.ensures in
+    let k = c.from_le_bytes.ensures in
     record { value = cc; place = search rules }

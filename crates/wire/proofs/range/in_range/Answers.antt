@@ -4,13 +4,13 @@ use Rattle.erasure.proofs.Bounds.{width_most}
 use Rattle.wire.specs.Reading.{in_range}
 use Rattle.wire.proofs.range.in_range.Goals as goal
 
-pub returns-then-ok-width : goal.returns-then-ok-width
+pub returns-then-ok_width : goal.returns-then-ok_width
 unfolding in_range
-returns-then-ok-width c = rw c.in-Header.is (grind (arith, nat_tests))
+returns-then-ok_width c = rw c.in-Header.is (grind (arith, nat_tests))
 
-pub returns-else-ok-width : goal.returns-else-ok-width
+pub returns-else-ok_width : goal.returns-else-ok_width
 unfolding in_range
-returns-else-ok-width c = rw c.in-Header.is (grind (arith, nat_tests))
+returns-else-ok_width c = rw c.in-Header.is (grind (arith, nat_tests))
 
 pub returns-in-Roots : goal.returns-in-Roots
 unfolding in_range
@@ -48,5 +48,5 @@ pub returns-else-place-width : goal.returns-else-place-width
 unfolding in_range
 returns-else-place-width c = rw c.in-Witness.is (grind (arith, nat_tests))
 
-pub overflow-mul-width : goal.overflow-mul-width
-overflow-mul-width c = let m = width_most c.args.h.now.k c.args.h.now.width in omega arith
+pub overflow_mul-width : goal.overflow_mul-width
+overflow_mul-width c = let m = width_most c.args.h.now.k c.args.h.now.width in omega arith

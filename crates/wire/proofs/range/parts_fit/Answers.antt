@@ -28,13 +28,13 @@ pub returns-in-GroupEnd : goal.returns-in-GroupEnd
 unfolding parts_fit
 returns-in-GroupEnd c = rw c.in-GroupEnd.is (grind (arith, nat_tests))
 
-pub returns-then-root-eq-DIGEST-LEN : goal.returns-then-root-eq-DIGEST-LEN
+pub returns-then-root-eq-DIGEST_LEN : goal.returns-then-root-eq-DIGEST_LEN
 unfolding parts_fit
-returns-then-root-eq-DIGEST-LEN c = rw c.in-Claim.is (grind (arith, nat_tests))
+returns-then-root-eq-DIGEST_LEN c = rw c.in-Claim.is (grind (arith, nat_tests))
 
-pub returns-else-root-eq-DIGEST-LEN : goal.returns-else-root-eq-DIGEST-LEN
+pub returns-else-root-eq-DIGEST_LEN : goal.returns-else-root-eq-DIGEST_LEN
 unfolding parts_fit
-returns-else-root-eq-DIGEST-LEN c = rw c.in-Claim.is (grind (arith, nat_tests))
+returns-else-root-eq-DIGEST_LEN c = rw c.in-Claim.is (grind (arith, nat_tests))
 
 pub returns-then-share-n-2 : goal.returns-then-share-n-2
 unfolding parts_fit

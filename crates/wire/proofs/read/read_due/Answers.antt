@@ -12,7 +12,7 @@ pub returns-in-default : goal.returns-in-default
 returns-in-default c = record { value = no_head _ _ _ (omega (arith, ltb-true)); place = tt; shorter = tt; back = tt }
 
 pub returns-then-rest-len : goal.returns-then-rest-len
-returns-then-rest-len c = record { value = no_body _ _ _ _ _ c.from-le-bytes-kind.result (omega (arith, ltb-false)) refl c.from-le-bytes-len.ensures (omega arith); place = tt; shorter = tt; back = tt }
+returns-then-rest-len c = record { value = no_body _ _ _ _ _ c.from_le_bytes-kind.result (omega (arith, ltb-false)) refl c.from_le_bytes-len.ensures (omega arith); place = tt; shorter = tt; back = tt }
 
 pub returns-in-err-admit : goal.returns-in-err-admit
 returns-in-err-admit c =
@@ -20,35 +20,35 @@ returns-in-err-admit c =
     let bs : List ℕ = c.args.bytes.now in
     let rest : List ℕ = take (length bs - 6) (drop 6 bs) in
     let long : 6 ≤ length bs = omega (arith, ltb-false) in
-    let held : c.from-le-bytes-len.result ≤ length rest = omega (arith, ltb-false) in
+    let held : c.from_le_bytes-len.result ≤ length rest = omega (arith, ltb-false) in
     rw (p.1, p.2) record {
-      value = not_admitted (fields_of c.args.h.now) c.args.due bs rest c.from-le-bytes-len.result c.from-le-bytes-kind.result long refl c.from-le-bytes-len.ensures held c.from-le-bytes-kind.ensures _ c.in-err-admit.ensures;
+      value = not_admitted (fields_of c.args.h.now) c.args.due bs rest c.from_le_bytes-len.result c.from_le_bytes-kind.result long refl c.from_le_bytes-len.ensures held c.from_le_bytes-kind.ensures _ c.in-err-admit.ensures;
       place = tt;
       shorter = tt;
       back = tt;
     }
 
-pub returns-then-not-in-range : goal.returns-then-not-in-range
-returns-then-not-in-range c =
+pub returns-then-not-in_range : goal.returns-then-not-in_range
+returns-then-not-in_range c =
     let bs : List ℕ = c.args.bytes.now in
     let rest : List ℕ = take (length bs - 6) (drop 6 bs) in
     let long : 6 ≤ length bs = omega (arith, ltb-false) in
-    let held : c.from-le-bytes-len.result ≤ length rest = omega (arith, ltb-false) in
-    let after : List ℕ = take (length rest - c.from-le-bytes-len.result) (drop c.from-le-bytes-len.result rest) in
-    let x = value_of c.record-in-item.result in
-    let v = admitted_is (fields_of c.args.h.now) c.args.due bs rest c.from-le-bytes-len.result c.from-le-bytes-kind.result long refl c.from-le-bytes-len.ensures held c.from-le-bytes-kind.ensures c.in-ok-admit.ensures x c.record-in-item.ensures.value after refl in
-    record { value = sym (out_of_range (fields_of c.args.h.now) x after c.if-not-in-range.ensures) ∙ v; place = tt; shorter = tt; back = tt }
+    let held : c.from_le_bytes-len.result ≤ length rest = omega (arith, ltb-false) in
+    let after : List ℕ = take (length rest - c.from_le_bytes-len.result) (drop c.from_le_bytes-len.result rest) in
+    let x = value_of c.record_in-item.result in
+    let v = admitted_is (fields_of c.args.h.now) c.args.due bs rest c.from_le_bytes-len.result c.from_le_bytes-kind.result long refl c.from_le_bytes-len.ensures held c.from_le_bytes-kind.ensures c.in-ok-admit.ensures x c.record_in-item.ensures.value after refl in
+    record { value = sym (out_of_range (fields_of c.args.h.now) x after c.if-not-in_range.ensures) ∙ v; place = tt; shorter = tt; back = tt }
 
 pub returns : goal.returns
 returns c =
     let bs : List ℕ = c.args.bytes.now in
     let rest : List ℕ = take (length bs - 6) (drop 6 bs) in
     let long : 6 ≤ length bs = omega (arith, ltb-false) in
-    let held : c.from-le-bytes-len.result ≤ length rest = omega (arith, ltb-false) in
-    let after : List ℕ = take (length rest - c.from-le-bytes-len.result) (drop c.from-le-bytes-len.result rest) in
-    let x = value_of c.record-in-item.result in
-    let v = admitted_is (fields_of c.args.h.now) c.args.due bs rest c.from-le-bytes-len.result c.from-le-bytes-kind.result long refl c.from-le-bytes-len.ensures held c.from-le-bytes-kind.ensures c.in-ok-admit.ensures x c.record-in-item.ensures.value after refl in
-    let w = sym (in_its_range (fields_of c.args.h.now) x after c.if-not-in-range.ensures) ∙ v in
+    let held : c.from_le_bytes-len.result ≤ length rest = omega (arith, ltb-false) in
+    let after : List ℕ = take (length rest - c.from_le_bytes-len.result) (drop c.from_le_bytes-len.result rest) in
+    let x = value_of c.record_in-item.result in
+    let v = admitted_is (fields_of c.args.h.now) c.args.due bs rest c.from_le_bytes-len.result c.from_le_bytes-kind.result long refl c.from_le_bytes-len.ensures held c.from_le_bytes-kind.ensures c.in-ok-admit.ensures x c.record_in-item.ensures.value after refl in
+    let w = sym (in_its_range (fields_of c.args.h.now) x after c.if-not-in_range.ensures) ∙ v in
     record {
       value = w;
       place = search rules;

@@ -3,7 +3,7 @@ use Rattle.header.specs.Fields.{fields_of}
 use Rattle.wire.proofs.Lengths.{body_short}
 use Rattle.wire.proofs.write.target_fits.Goals as goal
 
-pub overflow-add-whole : goal.overflow-add-whole
-overflow-add-whole c =
-    let b = body_short (fields_of c.args.h.now) (record { wide = c.args.h.now.width; sized = c.args.h.now.size }) c.kind-of.result in
-    omega (arith, c.body-len-whole.ensures)
+pub overflow_add-whole : goal.overflow_add-whole
+overflow_add-whole c =
+    let b = body_short (fields_of c.args.h.now) (record { wide = c.args.h.now.width; sized = c.args.h.now.size }) c.kind_of.result in
+    omega (arith, c.body_len-whole.ensures)

@@ -4,7 +4,7 @@ use Rattle.blockfile.proofs.Walks.{empty_standing}
 use Rattle.blockfile.proofs.file.BlockFile.empty.Goals as goal
 
 pub invariant-of-result : goal.invariant-of-result
-invariant-of-result c = ((empty_standing (fields_of c.no-block.result) [] c.empty.result c.empty.ensures.places c.empty.ensures.axes).within, tt)
+invariant-of-result c = ((empty_standing (fields_of c.no_block.result) [] c.empty.result c.empty.ensures.places c.empty.ensures.axes).within, tt)
 
 pub returns : goal.returns
-returns c = record { head = c.no-block.ensures; roots_are = refl; cells = (empty_standing (fields_of c.no-block.result) [] c.empty.result c.empty.ensures.places c.empty.ensures.axes).kept }
+returns c = record { head = c.no_block.ensures; roots_are = refl; cells = (empty_standing (fields_of c.no_block.result) [] c.empty.result c.empty.ensures.places c.empty.ensures.axes).kept }

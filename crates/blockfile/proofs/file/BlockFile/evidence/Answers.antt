@@ -19,5 +19,5 @@ returns c =
     let h = fields_of f.header in
     let s = says_by h f.bytes.now f.index c.args.cell.row c.args.cell.col c.in-Some.number c.in-Some.ensures.value in
     found_there h f.bytes.now (get_or f.index.at c.in-Some.number 0) (get_or f.index.column c.in-Some.number false) c.if-at-eq0.false
-    c.cut-found.result.axis c.cut-found.result.share.now c.cut-found.result.path.now c.lengths-n.result.share c.lengths-n.result.path
-    (ap (λ l. l.share) c.lengths-n.ensures) (ap (λ l. l.path) c.lengths-n.ensures) c.cut-found.ensures.axis c.cut-found.ensures.share c.cut-found.ensures.path ∙ s
+    c.cut_found.result.axis c.cut_found.result.share.now c.cut_found.result.path.now c.lengths-n.result.share c.lengths-n.result.path
+    (ap (λ l. l.share) c.lengths-n.ensures) (ap (λ l. l.path) c.lengths-n.ensures) c.cut_found.ensures.axis c.cut_found.ensures.share c.cut_found.ensures.path ∙ s

@@ -19,28 +19,28 @@ fits m r c n p free most =
     let d = depth_most m.k in
     (omega arith, omega arith)
 
-pub write-kept-requires : goal.write-kept-requires
-write-kept-requires g c =
+pub write_kept-requires : goal.write_kept-requires
+write_kept-requires g c =
     let a = c.args in
     let m : Meaning = g.S.Store.meaning a.self.now.below in
     let free : asked m.k m.s a.cell.row a.cell.col (length a.share.now) (length a.path.now) ≡ Ok tt =
-    sym (c.in-ok-question.ensures ∙ question_is m (g.S.Store.bounded a.self.now.below) _ _ _ _ _ _ c.half-width-k.ensures c.share-size-s.ensures) in
+    sym (c.in-ok-question.ensures ∙ question_is m (g.S.Store.bounded a.self.now.below) _ _ _ _ _ _ c.half_width-k.ensures c.share_size-s.ensures) in
     fits m _ _ _ _ free (size_most m.s (g.S.Store.bounded a.self.now.below).1)
 
-pub ask-below-brought-requires : goal.ask-below-brought-requires
-ask-below-brought-requires g c =
+pub ask_below-brought-requires : goal.ask_below-brought-requires
+ask_below-brought-requires g c =
     let a = c.args in
     let m : Meaning = g.S.Store.meaning a.self.now.below in
     let free : asked m.k m.s a.cell.row a.cell.col (length a.share.now) (length a.path.now) ≡ Ok tt =
-    sym (c.in-ok-question.ensures ∙ question_is m (g.S.Store.bounded a.self.now.below) _ _ _ _ _ _ c.half-width-k.ensures c.share-size-s.ensures) in
+    sym (c.in-ok-question.ensures ∙ question_is m (g.S.Store.bounded a.self.now.below) _ _ _ _ _ _ c.half_width-k.ensures c.share_size-s.ensures) in
     record { room = fits m _ _ _ _ free (size_most m.s (g.S.Store.bounded a.self.now.below).1); free = free }
 
-pub write-kept-requires-2 : goal.write-kept-requires-2
-write-kept-requires-2 g c =
+pub write_kept-requires-2 : goal.write_kept-requires-2
+write_kept-requires-2 g c =
     let a = c.args in
     let m : Meaning = g.S.Store.meaning a.self.now.below in
     let free : asked m.k m.s a.cell.row a.cell.col (length a.share.now) (length a.path.now) ≡ Ok tt =
-    sym (c.in-ok-question.ensures ∙ question_is m (g.S.Store.bounded a.self.now.below) _ _ _ _ _ _ c.half-width-k.ensures c.share-size-s.ensures) in
+    sym (c.in-ok-question.ensures ∙ question_is m (g.S.Store.bounded a.self.now.below) _ _ _ _ _ _ c.half_width-k.ensures c.share_size-s.ensures) in
     fits m _ _ _ _ free (size_most m.s (g.S.Store.bounded a.self.now.below).1)
 
 pub returns-in-Some : goal.returns-in-Some
@@ -54,13 +54,13 @@ returns-in-Some g c =
     let v = c.in-Some.v in
     let e : Evidence = (answer_in m.k m.s v).evidence in
     let free : asked m.k m.s r col (length a.share.now) (length a.path.now) ≡ Ok tt =
-    sym (c.in-ok-question.ensures ∙ question_is m (g.S.Store.bounded a.self.now.below) _ _ _ _ _ _ c.half-width-k.ensures c.share-size-s.ensures) in
+    sym (c.in-ok-question.ensures ∙ question_is m (g.S.Store.bounded a.self.now.below) _ _ _ _ _ _ c.half_width-k.ensures c.share_size-s.ensures) in
     let t = admitted m.k m.s r col _ _ free in
     let hit : kept_for r col (places m.k m.s a.self.now.kept) ≡ Some e = sym (c.in-Some.ensures m.k m.s) in
     record {
       shown = λ o.
           shows_this all r col a.share.now a.path.now free (Some e) (kept_held all r col (places m.k m.s a.self.now.kept) e hit o.1) _ _ _ _ _
-          refl (c.write-kept.ensures.share ∙ ap (λ n. take n v.share) t.share) (c.write-kept.ensures.path ∙ ap (λ n. take n v.path) t.path) refl o;
+          refl (c.write_kept.ensures.share ∙ ap (λ n. take n v.share) t.share) (c.write_kept.ensures.path ∙ ap (λ n. take n v.path) t.path) refl o;
       refused = untouched_free _ _ _ free;
       counted = count_hit _ _ free e _ hit;
       kept = λ o. kept_on_hit _ _ free r col (all.at r col) (places m.k m.s a.self.now.kept) e hit;
@@ -73,13 +73,13 @@ returns-in-default-brought g c =
     let f = g.H.Hash.meaning in
     let kind = g.H.Hash.kind in
     let m : Meaning = g.S.Store.meaning a.self.now.below in
-    let m' : Meaning = g.S.Store.meaning c.ask-below-brought.new.below in
+    let m' : Meaning = g.S.Store.meaning c.ask_below-brought.new.below in
     let h : Fields = fields_of a.self.now.header in
     let all : Meaning = checked f kind h m in
     let r = a.cell.row in
     let col = a.cell.col in
     let free : asked m.k m.s r col (length a.share.now) (length a.path.now) ≡ Ok tt =
-    sym (c.in-ok-question.ensures ∙ question_is m (g.S.Store.bounded a.self.now.below) _ _ _ _ _ _ c.half-width-k.ensures c.share-size-s.ensures) in
+    sym (c.in-ok-question.ensures ∙ question_is m (g.S.Store.bounded a.self.now.below) _ _ _ _ _ _ c.half_width-k.ensures c.share_size-s.ensures) in
     let ks : List (Option Answer) = places m.k m.s a.self.now.kept in
     let miss : kept_for r col ks ≡ None = sym (c.in-default.ensures m.k m.s) in
     record {
@@ -88,7 +88,7 @@ returns-in-default-brought g c =
           shows_this all r col a.share.now a.path.now free None (answer_none r col (all.at r col) b.is) (checked f kind h m') _ _ _ _ refl refl refl (ap (checked f kind h) b.same)
           (order_same f kind h m m' b.same a.self.now.kept _ b.kept o.1);
       refused = untouched_free _ _ _ free;
-      counted = count_miss _ _ free a.self.now.count _ miss c.one-more.ensures;
+      counted = count_miss _ _ free a.self.now.count _ miss c.one_more.ensures;
       kept = λ o. kept_on_none _ _ free r col (all.at r col) ks miss (answer_none r col (all.at r col) (c.in-default-brought.ensures o.0).is);
       unasked = unasked_miss _ _ _ miss;
     }
@@ -99,13 +99,13 @@ returns g c =
     let f = g.H.Hash.meaning in
     let kind = g.H.Hash.kind in
     let m : Meaning = g.S.Store.meaning a.self.now.below in
-    let m' : Meaning = g.S.Store.meaning c.ask-below-brought.new.below in
+    let m' : Meaning = g.S.Store.meaning c.ask_below-brought.new.below in
     let h : Fields = fields_of a.self.now.header in
     let all : Meaning = checked f kind h m in
     let r = a.cell.row in
     let col = a.cell.col in
     let free : asked m.k m.s r col (length a.share.now) (length a.path.now) ≡ Ok tt =
-    sym (c.in-ok-question.ensures ∙ question_is m (g.S.Store.bounded a.self.now.below) _ _ _ _ _ _ c.half-width-k.ensures c.share-size-s.ensures) in
+    sym (c.in-ok-question.ensures ∙ question_is m (g.S.Store.bounded a.self.now.below) _ _ _ _ _ _ c.half_width-k.ensures c.share_size-s.ensures) in
     let ks : List (Option Answer) = places m.k m.s a.self.now.kept in
     let miss : kept_for r col ks ≡ None = sym (c.in-default.ensures m.k m.s) in
     let v = c.in-Some-brought.v in
@@ -116,11 +116,11 @@ returns g c =
           let b = c.in-Some-brought.ensures o.0 in
           let x = answer_some r col (all.at r col) (answer_in m.k m.s v) b.is in
           shows_this all r col a.share.now a.path.now free (Some e) x.0 (checked f kind h m') _ _ _ _
-          refl (c.write-kept-2.ensures.share ∙ ap (λ n. take n v.share) t.share) (c.write-kept-2.ensures.path ∙ ap (λ n. take n v.path) t.path) (ap (checked f kind h) b.same)
+          refl (c.write_kept-2.ensures.share ∙ ap (λ n. take n v.share) t.share) (c.write_kept-2.ensures.path ∙ ap (λ n. take n v.path) t.path) (ap (checked f kind h) b.same)
           (order_pushed f kind h m m' b.same a.self.now.kept _ b.kept c.keep.new.slots v c.keep.ensures
           (ap (λ (y : Answer). all.at y.row y.col) x.1 ∙ x.0) o.1);
       refused = untouched_free _ _ _ free;
-      counted = count_miss _ _ free a.self.now.count _ miss c.one-more.ensures;
+      counted = count_miss _ _ free a.self.now.count _ miss c.one_more.ensures;
       kept = λ o.
           let x = answer_some r col (all.at r col) (answer_in m.k m.s v) (c.in-Some-brought.ensures o.0).is in
           ap (places m.k m.s) c.keep.ensures

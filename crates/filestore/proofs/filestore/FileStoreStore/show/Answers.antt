@@ -6,8 +6,8 @@ use Rattle.filestore.specs.Files.{file_meaning}
 use Rattle.filestore.proofs.Sizes.{sized}
 use Rattle.filestore.proofs.filestore.FileStoreStore.show.Goals as goal
 
-pub copy-from-slice-requires : goal.copy-from-slice-requires
-copy-from-slice-requires c =
+pub copy_from_slice-requires : goal.copy_from_slice-requires
+copy_from_slice-requires c =
     let a = c.args in
     let f = a.self.now.file.now in
     let m = file_meaning f in
@@ -17,8 +17,8 @@ copy-from-slice-requires c =
     let z = sized (fields_of f.header) f.header.width f.bytes.now f.index f.within a.cell.row a.cell.col _ (sym c.in-Some.ensures) in
     t.share ∙ sym z.share
 
-pub copy-from-slice-requires-2 : goal.copy-from-slice-requires-2
-copy-from-slice-requires-2 c =
+pub copy_from_slice-requires-2 : goal.copy_from_slice-requires-2
+copy_from_slice-requires-2 c =
     let a = c.args in
     let f = a.self.now.file.now in
     let m = file_meaning f in

@@ -9,21 +9,21 @@ use Rattle.header.proofs.header.Header.lengths.Goals as goal
 trees_most : (k : ℕ) → k ≤ 32 → 2 * k * (32 * (2 * (2 * k) - 1)) ≤ 260096
 trees_most k m = mul-le (2 * k) (32 * (2 * (2 * k) - 1)) 64 4064 (omega arith) (omega arith)
 
-pub overflow-sub-axis-tree : goal.overflow-sub-axis-tree
-overflow-sub-axis-tree c = omega (arith, width_some c.args.self.now.k c.args.self.now.width)
+pub overflow_sub-axis_tree : goal.overflow_sub-axis_tree
+overflow_sub-axis_tree c = omega (arith, width_some c.args.self.now.k c.args.self.now.width)
 
-pub overflow-sub-data-tree : goal.overflow-sub-data-tree
-overflow-sub-data-tree c = omega (arith, width_some c.args.self.now.k c.args.self.now.width)
+pub overflow_sub-data_tree : goal.overflow_sub-data_tree
+overflow_sub-data_tree c = omega (arith, width_some c.args.self.now.k c.args.self.now.width)
 
-pub overflow-mul-square-2 : goal.overflow-mul-square-2
-overflow-mul-square-2 c = omega (arith, square_most (fields_of c.args.self.now) (record { wide = c.args.self.now.width; sized = c.args.self.now.size }))
+pub overflow_mul-square-2 : goal.overflow_mul-square-2
+overflow_mul-square-2 c = omega (arith, square_most (fields_of c.args.self.now) (record { wide = c.args.self.now.width; sized = c.args.self.now.size }))
 
-pub overflow-add-result : goal.overflow-add-result
-overflow-add-result c =
+pub overflow_add-result : goal.overflow_add-result
+overflow_add-result c =
     let m = width_most c.args.self.now.k c.args.self.now.width in
     omega (arith, square_most (fields_of c.args.self.now) (record { wide = c.args.self.now.width; sized = c.args.self.now.size }), trees_most c.args.self.now.k m)
 
-pub overflow-add-result-2 : goal.overflow-add-result-2
-overflow-add-result-2 c =
+pub overflow_add-result-2 : goal.overflow_add-result-2
+overflow_add-result-2 c =
     let m = width_most c.args.self.now.k c.args.self.now.width in
     omega (arith, square_most (fields_of c.args.self.now) (record { wide = c.args.self.now.width; sized = c.args.self.now.size }), trees_most c.args.self.now.k m)

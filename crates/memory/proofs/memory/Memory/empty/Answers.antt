@@ -2,6 +2,6 @@ use Rattle.std.proofs.Common.{refl}
 use Rattle.erasure.specs.Limits.{ok_width, ok_size}
 use Rattle.memory.proofs.memory.Memory.empty.Goals as goal
 
-pub shape-of-requires : goal.shape-of-requires
+pub shape_of-requires : goal.shape_of-requires
 unfolding ok_width ok_size
-shape-of-requires c = (refl, refl)
+shape_of-requires c = (refl, refl)

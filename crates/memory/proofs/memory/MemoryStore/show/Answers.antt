@@ -8,8 +8,8 @@ use Rattle.memory.specs.Images.{row_tree_in, data_tree_in, row_evidence, image_m
 use Rattle.memory.proofs.Spots.{whole_image}
 use Rattle.memory.proofs.memory.MemoryStore.show.Goals as goal
 
-pub put-share-requires : goal.put-share-requires
-put-share-requires c =
+pub put_share-requires : goal.put_share-requires
+put_share-requires c =
     let a = c.args in
     let me = a.self.now in
     let m : Meaning = image_meaning me.image.now me.shape.k me.shape.s in
@@ -21,8 +21,8 @@ put-share-requires c =
       room = (whole_image me.shape.k me.shape.s (length me.image.now) me.whole c.if-self-eq0.false, t.share);
     }
 
-pub put-path-requires : goal.put-path-requires
-put-path-requires c =
+pub put_path-requires : goal.put_path-requires
+put_path-requires c =
     let a = c.args in
     let me = a.self.now in
     let m : Meaning = image_meaning me.image.now me.shape.k me.shape.s in
@@ -51,6 +51,6 @@ returns c =
     record {
       shown = λ o.
           shows_this m r col a.share.now a.path.now free (Some (row_evidence (block m.k m.s) me.image.now r col)) here _ _ _ _ _
-          refl c.put-share.ensures c.put-path.ensures refl o;
+          refl c.put_share.ensures c.put_path.ensures refl o;
       refused = untouched_free _ _ _ free;
     }
