@@ -12,7 +12,7 @@ use hash::limits::{DIGEST_LEN, PARTS_LIMIT};
 // Puts the node above `node` in its place.
 fn ascend<H: Hash>(node: &mut [u8], place: usize, sibling: &[u8])
     requires { (length node.old ≡ digest_len) × (length sibling.now ≡ digest_len) }
-    ensures { node.new ≡ above plain_rule meaning (beside (side place) sibling.now) node.old }
+    ensures { node.new ≡ above plain_rule H.meaning (beside (side place) sibling.now) node.old }
 {
     let mut up = [0u8; DIGEST_LEN];
     let _ = parent_digest::<H>(node, place, sibling, &mut up);
@@ -21,7 +21,7 @@ fn ascend<H: Hash>(node: &mut [u8], place: usize, sibling: &[u8])
 
 fn climb_up<H: Hash>(node: &mut [u8], place: usize, path: &[u8])
     requires { length node.old ≡ digest_len }
-    ensures { node.new ≡ climb_node meaning place path.now node.old }
+    ensures { node.new ≡ climb_node H.meaning place path.now node.old }
 {
     let mut place = place;
     for i in 0..path.len() / DIGEST_LEN {
@@ -45,7 +45,7 @@ fn is_path(len: usize) -> bool
 // `path` no row of them, it answers false.
 pub fn climb<H: Hash>(node: &mut [u8], place: usize, path: &[u8]) -> bool
     ensures answer { result ≡ climb_node_fits (length node.old) (length path.now) }
-    ensures written { node.new ≡ cond (climb_node_fits (length node.old) (length path.now)) (climb_node meaning place path.now node.old) node.old }
+    ensures written { node.new ≡ cond (climb_node_fits (length node.old) (length path.now)) (climb_node H.meaning place path.now node.old) node.old }
 {
     let fits = node.len() == DIGEST_LEN && is_path(path.len());
     if fits {
@@ -56,7 +56,7 @@ pub fn climb<H: Hash>(node: &mut [u8], place: usize, path: &[u8]) -> bool
 
 fn climb_up_from_leaf<H: Hash>(value: &[u8], place: usize, path: &[u8], out: &mut [u8])
     requires { (length value.now ≤ parts_limit) × (length out.old ≡ digest_len) }
-    ensures { out.new ≡ climb_leaf meaning place path.now value.now }
+    ensures { out.new ≡ climb_leaf H.meaning place path.now value.now }
 {
     let _ = leaf_digest::<H>(value, out);
     climb_up::<H>(out, place, path);
@@ -66,7 +66,7 @@ fn climb_up_from_leaf<H: Hash>(value: &[u8], place: usize, path: &[u8], out: &mu
 // them, it answers false.
 pub fn climb_leaf<H: Hash>(value: &[u8], place: usize, path: &[u8], out: &mut [u8]) -> bool
     ensures answer { result ≡ climb_leaf_fits (length value.now) (length path.now) (length out.old) }
-    ensures written { out.new ≡ cond (climb_leaf_fits (length value.now) (length path.now) (length out.old)) (climb_leaf meaning place path.now value.now) out.old }
+    ensures written { out.new ≡ cond (climb_leaf_fits (length value.now) (length path.now) (length out.old)) (climb_leaf H.meaning place path.now value.now) out.old }
 {
     let fits = value.len() <= PARTS_LIMIT && is_path(path.len()) && out.len() == DIGEST_LEN;
     if fits {

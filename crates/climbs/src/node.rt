@@ -17,7 +17,7 @@ const PAIR: u8 = 0x01;
 // Writes the node of the leaf `value`.
 pub fn leaf_digest<H: Hash>(value: &[u8], out: &mut [u8]) -> Result<(), DigestRefusal>
     ensures answer { outcome told result ≡ digest_outcome (length value.now) (length out.old) }
-    ensures written { out.new ≡ digest_out (length value.now) out.old (leaf_of plain_rule meaning value.now) }
+    ensures written { out.new ≡ digest_out (length value.now) out.old (leaf_of plain_rule H.meaning value.now) }
 {
     H::digest(LEAF, value, &[], out)
 }
@@ -25,7 +25,7 @@ pub fn leaf_digest<H: Hash>(value: &[u8], out: &mut [u8]) -> Result<(), DigestRe
 // Writes the node over `left` and `right`.
 pub fn node_digest<H: Hash>(left: &[u8], right: &[u8], out: &mut [u8]) -> Result<(), DigestRefusal>
     ensures answer { outcome told result ≡ digest_outcome (length left.now + length right.now) (length out.old) }
-    ensures written { out.new ≡ digest_out (length left.now + length right.now) out.old (join_of plain_rule meaning left.now right.now) }
+    ensures written { out.new ≡ digest_out (length left.now + length right.now) out.old (join_of plain_rule H.meaning left.now right.now) }
 {
     H::digest(PAIR, left, right, out)
 }
@@ -38,7 +38,7 @@ pub fn parent_digest<H: Hash>(
     out: &mut [u8],
 ) -> Result<(), DigestRefusal>
     ensures answer { outcome told result ≡ digest_outcome (length node.now + length sibling.now) (length out.old) }
-    ensures written { out.new ≡ digest_out (length node.now + length sibling.now) out.old (above plain_rule meaning (beside (side place) sibling.now) node.now) }
+    ensures written { out.new ≡ digest_out (length node.now + length sibling.now) out.old (above plain_rule H.meaning (beside (side place) sibling.now) node.now) }
 {
     if place % 2 == 0 {
         node_digest::<H>(node, sibling, out)

@@ -36,7 +36,7 @@ unit_inv (suc a) b h e = mul_inv (suc a) (omega arith) h
 
 pub inverse : (a b : ℕ) → a < 256 → b < 256 → a ≢ b → mul (bit_xor a b) (inv (bit_xor a b)) ≡ 1
 inverse a b ha hb d =
-    let n : bit_xor a b ≢ 0 = λ e. d (ring.add-cancel ℕ bytes a b e) in
+    let n : bit_xor a b ≢ 0 = λ e. d (ring.add_cancel ℕ bytes a b e) in
     mul_inv (bit_xor a b) (omega arith) (xor_lt 8 a b ha hb)
 
 abbrev pub Deg : ℕ → (ℕ → ℕ) → Type 0
@@ -66,7 +66,7 @@ module _ (T : Table) (v : ℕ → ℕ) (k : ℕ) (hk : k ≤ 128) (S : Scaled T 
   recover d p s i hi =
       S.is d i hi
       ∙ ring.recovered ℕ bytes inv k p (separate k p hk s) (S.word d) (S.deg d) v (λ x. inv (v x)) (λ j h. S.unit (p j) (s.below j h)) i
-      ∙ ring.over-same bit_xor 0 k (λ j. mul (weight p i j) (mul (v (p j)) (S.word d (p j)))) (λ j. mul (weight p i j) (symbol T k d (p j)))
+      ∙ ring.over_same bit_xor 0 k (λ j. mul (weight p i j) (mul (v (p j)) (S.word d (p j)))) (λ j. mul (weight p i j) (symbol T k d (p j)))
       (λ j h. ap (mul (weight p i j)) (sym (S.is d (p j) (s.below j h))))
 
   pub second : (d e p : ℕ → ℕ) → Places k p
@@ -75,7 +75,7 @@ module _ (T : Table) (v : ℕ → ℕ) (k : ℕ) (hk : k ≤ 128) (S : Scaled T 
   unfolding applied
   second d e p s h i hi =
       recover d p s i hi
-      ∙ ring.over-same bit_xor 0 k (λ j. mul (weight p i j) (symbol T k d (p j))) (λ j. mul (weight p i j) (symbol T k e (p j)))
+      ∙ ring.over_same bit_xor 0 k (λ j. mul (weight p i j) (symbol T k d (p j))) (λ j. mul (weight p i j) (symbol T k e (p j)))
       (λ j hj. ap (mul (weight p i j)) (h j hj))
       ∙ sym (recover e p s i hi)
 
@@ -89,8 +89,8 @@ module _ (T : Table) (v : ℕ → ℕ) (k : ℕ) (hk : k ≤ 128) (S : Scaled T 
     behind_deg : Deg k behind
     unfolding behind
     behind_deg =
-        ring.deg-sum ℕ bytes k k (λ j x. mul (mul (inv (v (p j))) (s j)) (ring.weight ℕ bytes inv k p j x))
-        (λ j h. ring.deg-scale ℕ bytes k (mul (inv (v (p j))) (s j)) (ring.weight ℕ bytes inv k p j) (ring.weight-deg ℕ bytes inv k p j h))
+        ring.deg_sum ℕ bytes k k (λ j x. mul (mul (inv (v (p j))) (s j)) (ring.weight ℕ bytes inv k p j x))
+        (λ j h. ring.deg_scale ℕ bytes k (mul (inv (v (p j))) (s j)) (ring.weight ℕ bytes inv k p j) (ring.weight_deg ℕ bytes inv k p j h))
 
     c : ℕ → ℕ
     c i = applied k (weight p i) s
@@ -98,11 +98,11 @@ module _ (T : Table) (v : ℕ → ℕ) (k : ℕ) (hk : k ≤ 128) (S : Scaled T 
     c_behind : (i : ℕ) → c i ≡ mul (v i) (behind i)
     unfolding c applied lagrange behind
     c_behind i =
-        ring.over-same bit_xor 0 k
+        ring.over_same bit_xor 0 k
         (λ j. mul (weight p i j) (s j))
         (λ j. mul (v i) (mul (mul (inv (v (p j))) (s j)) (ring.weight ℕ bytes inv k p j i)))
         (λ j h. shuffle (v i) (inv (v (p j))) (ring.weight ℕ bytes inv k p j i) (s j))
-        ∙ sym (ring.sum-scale ℕ bytes (v i) k (λ j. mul (mul (inv (v (p j))) (s j)) (ring.weight ℕ bytes inv k p j i)))
+        ∙ sym (ring.sum_scale ℕ bytes (v i) k (λ j. mul (mul (inv (v (p j))) (s j)) (ring.weight ℕ bytes inv k p j i)))
       where
         shuffle : (a b w y : ℕ) → mul (mul (mul a b) w) y ≡ mul a (mul (mul b y) w)
         shuffle a b w y = mul_assoc (mul a b) w y ∙ mul_assoc a b (mul w y) ∙ ap (mul a) (ap (mul b) (mul_comm w y) ∙ sym (mul_assoc b y w))
@@ -112,10 +112,10 @@ module _ (T : Table) (v : ℕ → ℕ) (k : ℕ) (hk : k ≤ 128) (S : Scaled T 
     c_given i h =
         c_behind (p i)
         ∙ ap (mul (v (p i)))
-        (ring.sum-only ℕ bytes k i (λ j. mul (mul (inv (v (p j))) (s j)) (ring.weight ℕ bytes inv k p j (p i))) h
-        (λ j hj d. ap (mul (mul (inv (v (p j))) (s j))) (ring.weight-else ℕ bytes inv k p i j h (λ e. d (sym e)))
+        (ring.sum_only ℕ bytes k i (λ j. mul (mul (inv (v (p j))) (s j)) (ring.weight ℕ bytes inv k p j (p i))) h
+        (λ j hj d. ap (mul (mul (inv (v (p j))) (s j))) (ring.weight_else ℕ bytes inv k p i j h (λ e. d (sym e)))
         ∙ ring.mul-zero ℕ bytes (mul (inv (v (p j))) (s j)))
-        ∙ ap (mul (mul (inv (v (p i))) (s i))) (ring.weight-here ℕ bytes inv k p (separate k p hk pl) i h)
+        ∙ ap (mul (mul (inv (v (p i))) (s i))) (ring.weight_here ℕ bytes inv k p (separate k p hk pl) i h)
         ∙ mul_comm (mul (inv (v (p i))) (s i)) 1 ∙ bytes.one-mul (inv (v (p i))) (s i))
         ∙ sym (mul_assoc (v (p i)) (inv (v (p i))) (s i)) ∙ ap (λ (x : ℕ). mul x (s i)) (S.unit (p i) (pl.below i h))
         ∙ one_mul_byte (s i) (sb i h)
@@ -127,7 +127,7 @@ module _ (T : Table) (v : ℕ → ℕ) (k : ℕ) (hk : k ≤ 128) (S : Scaled T 
     unfolding applied lagrange
     c_coded i h =
         recover c (λ j. j) plain i h
-        ∙ ring.over-same bit_xor 0 k (λ j. mul (weight (λ j. j) i j) (symbol T k c j)) (λ j. mul (weight (λ j. j) i j) (mul (v j) (behind j)))
+        ∙ ring.over_same bit_xor 0 k (λ j. mul (weight (λ j. j) i j) (symbol T k c j)) (λ j. mul (weight (λ j. j) i j) (mul (v j) (behind j)))
         (λ j hj. ap (mul (weight (λ j. j) i j))
         (first c j hj (subst (λ (x : ℕ). x < 256) (sym (c_behind j)) (mul_byte (v j) (behind j))) ∙ c_behind j))
         ∙ sym (ring.recovered ℕ bytes inv k (λ j. j) (separate k (λ j. j) hk plain) behind behind_deg v (λ x. inv (v x)) (λ j hj. S.unit j (omega arith)) i)

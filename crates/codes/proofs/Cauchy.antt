@@ -28,8 +28,8 @@ module _ (k : ℕ) (hk : k ≤ 128) where
   others_unit : (i j : ℕ) → i < 256 → ((m : ℕ) → m < k → m ≢ j → i ≢ m)
       → mul (ring.others ℕ bytes k j (λ m. inv (bit_xor i m))) (ring.others ℕ bytes k j (λ m. bit_xor i m)) ≡ 1
   others_unit i j hi d =
-      sym (ring.others-mul ℕ bytes k j (λ m. inv (bit_xor i m)) (λ m. bit_xor i m))
-      ∙ ring.others-one ℕ bytes k j (λ m. mul (inv (bit_xor i m)) (bit_xor i m))
+      sym (ring.others_mul ℕ bytes k j (λ m. inv (bit_xor i m)) (λ m. bit_xor i m))
+      ∙ ring.others_one ℕ bytes k j (λ m. mul (inv (bit_xor i m)) (bit_xor i m))
       (λ m hm n. mul_comm (inv (bit_xor i m)) (bit_xor i m) ∙ inverse i m hi (omega arith) (d m hm n))
 
   unit : (i : ℕ) → i < 2 * k → mul (v k i) (u k i) ≡ 1
@@ -37,8 +37,8 @@ module _ (k : ℕ) (hk : k ≤ 128) where
 
   word_deg : (d : ℕ → ℕ) → Deg k (word k d)
   word_deg d =
-      ring.deg-sum ℕ bytes k k (λ j x. mul (d j) (basis k j x))
-      (λ j h. ring.deg-scale ℕ bytes k (d j) (basis k j) (ring.basis-deg ℕ bytes inv k (λ m. m) k j h))
+      ring.deg_sum ℕ bytes k k (λ j x. mul (d j) (basis k j x))
+      (λ j h. ring.deg_scale ℕ bytes k (d j) (basis k j) (ring.basis_deg ℕ bytes inv k (λ m. m) k j h))
 
   -- a symbol below k
   data_row : (i j : ℕ) → i < k → cauchy k i j ≡ cond (eqb i j) 1 0
@@ -48,7 +48,7 @@ module _ (k : ℕ) (hk : k ≤ 128) where
   data_here : (d : ℕ → ℕ) (i : ℕ) → i < k → symbol cauchy k d i ≡ mul 1 (d i)
   unfolding applied
   data_here d i h =
-      ring.sum-only ℕ bytes k i (λ j. mul (cauchy k i j) (d j)) h
+      ring.sum_only ℕ bytes k i (λ j. mul (cauchy k i j) (d j)) h
       (λ j hj n. ap (λ (x : ℕ). mul x (d j)) (data_row i j h ∙ ap (λ b. cond b 1 0) (ne_eqb i j (λ e. n (sym e))))
       ∙ ring.zero-mul ℕ bytes (d j))
       ∙ ap (λ (x : ℕ). mul x (d i)) (data_row i i h ∙ ap (λ b. cond b 1 0) (eq-eqb i i refl))
@@ -58,29 +58,29 @@ module _ (k : ℕ) (hk : k ≤ 128) where
       data_here d i h ∙ mul_comm 1 (d i) ∙ ap (mul (d i)) (sym (unit i (omega arith)))
       ∙ ring.mul_left_comm ℕ bytes (d i) (v k i) (u k i)
       ∙ ap (mul (v k i))
-      (sym (ring.sum-only ℕ bytes k i (λ j. mul (d j) (basis k j i)) h
-      (λ j hj n. ap (mul (d j)) (ring.others-zero ℕ bytes k j i (λ m. bit_xor i m) h (λ e. n (sym e)) (xor_self i))
+      (sym (ring.sum_only ℕ bytes k i (λ j. mul (d j) (basis k j i)) h
+      (λ j hj n. ap (mul (d j)) (ring.others_zero ℕ bytes k j i (λ m. bit_xor i m) h (λ e. n (sym e)) (xor_self i))
       ∙ ring.mul-zero ℕ bytes (d j))))
 
   -- a symbol from k on
   is_sum : (d : ℕ → ℕ) (i : ℕ) → k ≤ i → i < 2 * k → symbol cauchy k d i ≡ mul (v k i) (word k d i)
   unfolding applied cauchy
   is_sum d i h hi =
-      ring.over-same bit_xor 0 k (λ j. mul (cauchy k i j) (d j)) (λ j. mul (v k i) (mul (d j) (basis k j i)))
+      ring.over_same bit_xor 0 k (λ j. mul (cauchy k i j) (d j)) (λ j. mul (v k i) (mul (d j) (basis k j i)))
       (λ j hj. sym (term j hj))
-      ∙ sym (ring.sum-scale ℕ bytes (v k i) k (λ j. mul (d j) (basis k j i)))
+      ∙ sym (ring.sum_scale ℕ bytes (v k i) k (λ j. mul (d j) (basis k j i)))
     where
       rest : ℕ → ℕ
       rest j = ring.others ℕ bytes k j (λ m. inv (bit_xor i m))
 
       v_split : (j : ℕ) → j < k → v k i ≡ mul (inv (bit_xor i j)) (rest j)
       v_split j hj =
-          ring.others-past ℕ bytes k i (λ m. inv (bit_xor i m)) h ∙ ring.prod-split ℕ bytes k j (λ m. inv (bit_xor i m)) hj
+          ring.others_past ℕ bytes k i (λ m. inv (bit_xor i m)) h ∙ ring.prod_split ℕ bytes k j (λ m. inv (bit_xor i m)) hj
 
       term : (j : ℕ) → j < k → mul (v k i) (mul (d j) (basis k j i)) ≡ mul (cauchy k i j) (d j)
       term j hj =
           ap (λ (x : ℕ). mul x (mul (d j) (basis k j i))) (v_split j hj)
-          ∙ ring.mul-four ℕ bytes (inv (bit_xor i j)) (rest j) (d j) (basis k j i)
+          ∙ ring.mul_four ℕ bytes (inv (bit_xor i j)) (rest j) (d j) (basis k j i)
           ∙ ap (mul (mul (inv (bit_xor i j)) (d j))) (others_unit i j (omega arith) (λ m hm n. omega arith))
           ∙ mul_comm (mul (inv (bit_xor i j)) (d j)) 1
           ∙ bytes.one-mul (inv (bit_xor i j)) (d j)
@@ -90,7 +90,7 @@ module _ (k : ℕ) (hk : k ≤ 128) where
   is d i h = elim (dec_lt i k) [ yes l ↦ is_data d i l | no n ↦ is_sum d i (omega arith) h ]
 
   v_byte : (i : ℕ) → v k i < 256
-  v_byte i = subst (λ (x : ℕ). x < 256) (ring.one-prod ℕ bytes k (except 1 i (λ m. inv (bit_xor i m)))) (mul_byte 1 (v k i))
+  v_byte i = subst (λ (x : ℕ). x < 256) (ring.one_prod ℕ bytes k (except 1 i (λ m. inv (bit_xor i m)))) (mul_byte 1 (v k i))
 
   pub scaled : Scaled cauchy (v k) k
   scaled = record { unit = λ i h. unit_inv (v k i) (u k i) (v_byte i) (unit i h); word = word k; deg = word_deg; is = is }
@@ -113,7 +113,7 @@ weight_law k hk p s pl sb = meets cauchy (v k) k hk (scaled k hk) (first_law k h
 sums : (k : ℕ) (d : ℕ → ℕ) (i : ℕ) → k ≤ i → symbol cauchy k d i ≡ over bit_xor 0 k (λ j. div (d j) (bit_xor i j))
 unfolding applied cauchy
 sums k d i h =
-    ring.over-same bit_xor 0 k (λ j. mul (cauchy k i j) (d j)) (λ j. div (d j) (bit_xor i j))
+    ring.over_same bit_xor 0 k (λ j. mul (cauchy k i j) (d j)) (λ j. div (d j) (bit_xor i j))
     (λ j hj. ap (λ b. mul (cond b (cond (eqb i j) 1 0) (inv (bit_xor i j))) (d j)) (le-ltb i k h) ∙ mul_comm (inv (bit_xor i j)) (d j))
 
 pub cauchy_law : CauchyLaw

@@ -22,20 +22,20 @@ scaled k =
       unit = λ i h. unit_inv 1 1 (lit< tt) (one_mul_byte 1 (lit< tt));
       word = λ d i. symbol polynomial k d i;
       deg = λ d.
-          ring.deg-sum ℕ bytes k k (λ j x. mul (polynomial k x j) (d j))
-          (λ j h. ring.deg-same ℕ bytes k (λ x. mul (d j) (polynomial k x j)) (λ x. mul (polynomial k x j) (d j))
+          ring.deg_sum ℕ bytes k k (λ j x. mul (polynomial k x j) (d j))
+          (λ j h. ring.deg_same ℕ bytes k (λ x. mul (d j) (polynomial k x j)) (λ x. mul (polynomial k x j) (d j))
           (λ x. mul_comm (d j) (polynomial k x j))
-          (ring.deg-scale ℕ bytes k (d j) (λ x. polynomial k x j) (ring.weight-deg ℕ bytes inv k (λ m. m) j h)));
-      is = λ d i h. sym (ring.one-sum ℕ bytes k (λ j. polynomial k i j) (λ j. d j));
+          (ring.deg_scale ℕ bytes k (d j) (λ x. polynomial k x j) (ring.weight_deg ℕ bytes inv k (λ m. m) j h)));
+      is = λ d i h. sym (ring.one_sum ℕ bytes k (λ j. polynomial k i j) (λ j. d j));
     }
 
 pub first_law : FirstLaw polynomial
 unfolding applied lagrange polynomial
 first_law k hk d i h b =
-    ring.sum-only ℕ bytes k i (λ j. mul (polynomial k i j) (d j)) h
-    (λ j hj n. ap (λ (x : ℕ). mul x (d j)) (ring.weight-else ℕ bytes inv k (λ m. m) i j h (λ e. n (sym e)))
+    ring.sum_only ℕ bytes k i (λ j. mul (polynomial k i j) (d j)) h
+    (λ j hj n. ap (λ (x : ℕ). mul x (d j)) (ring.weight_else ℕ bytes inv k (λ m. m) i j h (λ e. n (sym e)))
     ∙ ring.zero-mul ℕ bytes (d j))
-    ∙ ap (λ (x : ℕ). mul x (d i)) (ring.weight-here ℕ bytes inv k (λ m. m) (plain k hk) i h)
+    ∙ ap (λ (x : ℕ). mul x (d i)) (ring.weight_here ℕ bytes inv k (λ m. m) (plain k hk) i h)
     ∙ one_mul_byte (d i) b
 
 pub second_law : SecondLaw polynomial
@@ -49,12 +49,12 @@ weight_law k hk p s pl sb = meets polynomial (plain_scale k) k hk (scaled k) (fi
 
 value_deg : (cs : List ℕ) → Deg (length cs) (value cs)
 unfolding value
-value_deg [] = ring.deg-zero ℕ bytes 0
+value_deg [] = ring.deg_zero ℕ bytes 0
 value_deg (a ∷ cs) =
-    ring.deg-add ℕ bytes (suc (length cs)) (λ x. a) (λ x. mul x (value cs x)) (ring.deg-const ℕ bytes (length cs) a)
-    (ring.deg-same ℕ bytes (suc (length cs)) (λ x. mul (bit_xor x 0) (value cs x)) (λ x. mul x (value cs x))
+    ring.deg_add ℕ bytes (suc (length cs)) (λ x. a) (λ x. mul x (value cs x)) (ring.deg_const ℕ bytes (length cs) a)
+    (ring.deg_same ℕ bytes (suc (length cs)) (λ x. mul (bit_xor x 0) (value cs x)) (λ x. mul x (value cs x))
     (λ x. ap (λ (y : ℕ). mul y (value cs x)) (xor_zero_r x))
-    (ring.deg-times ℕ bytes (length cs) 0 (value cs) (value_deg cs)))
+    (ring.deg_times ℕ bytes (length cs) 0 (value cs) (value_deg cs)))
 
 coefficients : (k : ℕ) (f : ℕ → ℕ) → Deg k f → (cs : List ℕ) × (length cs ≡ k) × ((x : ℕ) → f x ≡ value cs x)
 unfolding value ring.Deg
@@ -72,7 +72,7 @@ every : (k : ℕ) → k ≤ 128 → (d : ℕ → ℕ) (P : List ℕ) → Interpo
     → (i : ℕ) → i < 2 * k → symbol polynomial k d i ≡ value P i
 unfolding applied lagrange polynomial
 every k hk d P q i hi =
-    ring.over-same bit_xor 0 k (λ j. mul (polynomial k i j) (d j)) (λ j. mul (value P j) (polynomial k i j))
+    ring.over_same bit_xor 0 k (λ j. mul (polynomial k i j) (d j)) (λ j. mul (value P j) (polynomial k i j))
     (λ j hj. mul_comm (polynomial k i j) (d j) ∙ ap (λ (x : ℕ). mul x (polynomial k i j)) (sym (q.values j hj)))
     ∙ sym (ring.settled ℕ bytes inv k (λ m. m) (plain k hk) (value P) (subst (λ (n : ℕ). Deg n (value P)) q.degree (value_deg P)) i)
     ∙ one_mul_byte (value P i) (value_byte P i q.bytes)

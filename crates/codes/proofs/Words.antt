@@ -16,12 +16,12 @@ use Rattle.codes.proofs.Ring as ring
 pub applied_row : (n : ℕ) (row row' d : ℕ → ℕ) → ((j : ℕ) → j < n → row j ≡ row' j) → applied n row d ≡ applied n row' d
 unfolding applied
 applied_row n row row' d h =
-    ring.over-same bit_xor 0 n (λ j. mul (row j) (d j)) (λ j. mul (row' j) (d j)) (λ j k. ap (λ (x : ℕ). mul x (d j)) (h j k))
+    ring.over_same bit_xor 0 n (λ j. mul (row j) (d j)) (λ j. mul (row' j) (d j)) (λ j k. ap (λ (x : ℕ). mul x (d j)) (h j k))
 
 pub applied_data : (n : ℕ) (row d d' : ℕ → ℕ) → ((j : ℕ) → j < n → d j ≡ d' j) → applied n row d ≡ applied n row d'
 unfolding applied
 applied_data n row d d' h =
-    ring.over-same bit_xor 0 n (λ j. mul (row j) (d j)) (λ j. mul (row j) (d' j)) (λ j k. ap (mul (row j)) (h j k))
+    ring.over_same bit_xor 0 n (λ j. mul (row j) (d j)) (λ j. mul (row j) (d' j)) (λ j k. ap (mul (row j)) (h j k))
 
 pub applied_byte : (n : ℕ) (row d : ℕ → ℕ) → applied n row d < 256
 unfolding applied over
@@ -32,7 +32,7 @@ applied_byte (suc n) row d = xor_lt 8 (mul (row n) (d n)) (applied n row d) (mul
 pub applied_low : (n : ℕ) (row d : ℕ → ℕ) → applied n row (λ j. d j % 256) ≡ applied n row d
 unfolding applied
 applied_low n row d =
-    ring.over-same bit_xor 0 n (λ j. mul (row j) (d j % 256)) (λ j. mul (row j) (d j)) (λ j k. mul_low_r (row j) (d j))
+    ring.over_same bit_xor 0 n (λ j. mul (row j) (d j % 256)) (λ j. mul (row j) (d j)) (λ j k. mul_low_r (row j) (d j))
 
 pub first_low : (T : Table) → FirstLaw T → (k : ℕ) → k ≤ 128 → (d : ℕ → ℕ) (i : ℕ) → i < k → symbol T k d i ≡ d i % 256
 first_low T law k hk d i h = sym (applied_low k (T k i) d) ∙ law k hk (λ j. d j % 256) i h (mod-lt (d i) (lit< tt))

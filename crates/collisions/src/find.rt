@@ -42,8 +42,8 @@ fn find<H: Hash>(
 ) -> Option<usize>
     requires lengths { Fitting (length value_a.now) (length value_b.now) (length path_a.now) (length path_b.now) (length string_a.old) (length string_b.old) }
     requires ends { (length end_a.old ≡ digest_len) × (length end_b.old ≡ digest_len) }
-    ensures finds { Finds meaning (from_leaf (levels path_a.now) place path_a.now) (from_leaf (levels path_b.now) place path_b.now) value_a.now value_b.now result string_a.old string_b.old string_a.new string_b.new }
-    ensures ends { Ends meaning (from_leaf (levels path_a.now) place path_a.now) (from_leaf (levels path_b.now) place path_b.now) value_a.now value_b.now end_a.old end_b.old end_a.new end_b.new }
+    ensures finds { Finds H.meaning (from_leaf (levels path_a.now) place path_a.now) (from_leaf (levels path_b.now) place path_b.now) value_a.now value_b.now result string_a.old string_b.old string_a.new string_b.new }
+    ensures ends { Ends H.meaning (from_leaf (levels path_a.now) place path_a.now) (from_leaf (levels path_b.now) place path_b.now) value_a.now value_b.now end_a.old end_b.old end_a.new end_b.new }
 {
     let mut a = [0u8; DIGEST_LEN];
     let mut b = [0u8; DIGEST_LEN];
@@ -81,8 +81,8 @@ pub fn find_collision<H: Hash>(
     string_a: &mut [u8],
     string_b: &mut [u8],
 ) -> Option<usize>
-    ensures finds { search_fits (length value_a.now) (length value_b.now) (length path_a.now) (length path_b.now) (length end_a.old) (length end_b.old) (length string_a.old) (length string_b.old) ≡ true → Finds meaning (from_leaf (levels path_a.now) place path_a.now) (from_leaf (levels path_b.now) place path_b.now) value_a.now value_b.now result string_a.old string_b.old string_a.new string_b.new }
-    ensures ends { search_fits (length value_a.now) (length value_b.now) (length path_a.now) (length path_b.now) (length end_a.old) (length end_b.old) (length string_a.old) (length string_b.old) ≡ true → Ends meaning (from_leaf (levels path_a.now) place path_a.now) (from_leaf (levels path_b.now) place path_b.now) value_a.now value_b.now end_a.old end_b.old end_a.new end_b.new }
+    ensures finds { search_fits (length value_a.now) (length value_b.now) (length path_a.now) (length path_b.now) (length end_a.old) (length end_b.old) (length string_a.old) (length string_b.old) ≡ true → Finds H.meaning (from_leaf (levels path_a.now) place path_a.now) (from_leaf (levels path_b.now) place path_b.now) value_a.now value_b.now result string_a.old string_b.old string_a.new string_b.new }
+    ensures ends { search_fits (length value_a.now) (length value_b.now) (length path_a.now) (length path_b.now) (length end_a.old) (length end_b.old) (length string_a.old) (length string_b.old) ≡ true → Ends H.meaning (from_leaf (levels path_a.now) place path_a.now) (from_leaf (levels path_b.now) place path_b.now) value_a.now value_b.now end_a.old end_b.old end_a.new end_b.new }
     ensures unfit { search_fits (length value_a.now) (length value_b.now) (length path_a.now) (length path_b.now) (length end_a.old) (length end_b.old) (length string_a.old) (length string_b.old) ≡ false → (result ≡ None) × (end_a.new ≡ end_a.old) × (end_b.new ≡ end_b.old) × (string_a.new ≡ string_a.old) × (string_b.new ≡ string_b.old) }
 {
     let fits = strings_fit(
@@ -115,7 +115,7 @@ fn find_in_two<H: Hash>(
 ) -> Option<usize>
     requires lengths { Fitting (length value_a.now) (length value_b.now) (length path_a.now) (length path_b.now) (length string_a.old) (length string_b.old) }
     requires depth { depth ≤ levels path_a.now }
-    ensures { Finds meaning (through_two depth place (levels path_a.now - depth) next_place path_a.now) (through_two depth place (levels path_b.now - depth) next_place path_b.now) value_a.now value_b.now result string_a.old string_b.old string_a.new string_b.new }
+    ensures { Finds H.meaning (through_two depth place (levels path_a.now - depth) next_place path_a.now) (through_two depth place (levels path_b.now - depth) next_place path_b.now) value_a.now value_b.now result string_a.old string_b.old string_a.new string_b.new }
 {
     let cut = DIGEST_LEN * depth;
     let mut root_a = [0u8; DIGEST_LEN];
@@ -162,7 +162,7 @@ pub fn find_collision_through<H: Hash>(
     string_a: &mut [u8],
     string_b: &mut [u8],
 ) -> Option<usize>
-    ensures finds { two_fit depth (length value_a.now) (length value_b.now) (length path_a.now) (length path_b.now) (length string_a.old) (length string_b.old) ≡ true → Finds meaning (through_two depth place (levels path_a.now - depth) next_place path_a.now) (through_two depth place (levels path_b.now - depth) next_place path_b.now) value_a.now value_b.now result string_a.old string_b.old string_a.new string_b.new }
+    ensures finds { two_fit depth (length value_a.now) (length value_b.now) (length path_a.now) (length path_b.now) (length string_a.old) (length string_b.old) ≡ true → Finds H.meaning (through_two depth place (levels path_a.now - depth) next_place path_a.now) (through_two depth place (levels path_b.now - depth) next_place path_b.now) value_a.now value_b.now result string_a.old string_b.old string_a.new string_b.new }
     ensures unfit { two_fit depth (length value_a.now) (length value_b.now) (length path_a.now) (length path_b.now) (length string_a.old) (length string_b.old) ≡ false → (result ≡ None) × (string_a.new ≡ string_a.old) × (string_b.new ≡ string_b.old) }
 {
     let fits = strings_fit(

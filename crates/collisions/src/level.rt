@@ -24,9 +24,9 @@ pub(crate) fn leaf_level<H: Hash>(
     requires values { (length value_a.now ≤ parts_limit) × (length value_b.now ≤ parts_limit) }
     requires nodes { (length a.old ≡ digest_len) × (length b.old ≡ digest_len) }
     requires room { (length value_a.now < length string_a.old) × (length value_b.now < length string_b.old) }
-    ensures hit { result ≡ collides meaning (input plain_rule alone value_a.now) (input plain_rule alone value_b.now) }
-    ensures first { a.new ≡ above plain_rule meaning alone value_a.now }
-    ensures second { b.new ≡ above plain_rule meaning alone value_b.now }
+    ensures hit { result ≡ collides H.meaning (input plain_rule alone value_a.now) (input plain_rule alone value_b.now) }
+    ensures first { a.new ≡ above plain_rule H.meaning alone value_a.now }
+    ensures second { b.new ≡ above plain_rule H.meaning alone value_b.now }
     ensures one { string_a.new ≡ (if result then at_front (input plain_rule alone value_a.now) string_a.old else string_a.old) }
     ensures other { string_b.new ≡ (if result then at_front (input plain_rule alone value_b.now) string_b.old else string_b.old) }
 {
@@ -54,9 +54,9 @@ pub(crate) fn pair_level<H: Hash>(
     requires nodes { (length a.old ≡ digest_len) × (length b.old ≡ digest_len) }
     requires siblings { (length sibling_a.now ≡ digest_len) × (length sibling_b.now ≡ digest_len) }
     requires room { (2 * digest_len < length string_a.old) × (2 * digest_len < length string_b.old) }
-    ensures hit { result ≡ collides meaning (input plain_rule (beside (side place) sibling_a.now) a.old) (input plain_rule (beside (side place) sibling_b.now) b.old) }
-    ensures first { result ≡ false → a.new ≡ above plain_rule meaning (beside (side place) sibling_a.now) a.old }
-    ensures second { result ≡ false → b.new ≡ above plain_rule meaning (beside (side place) sibling_b.now) b.old }
+    ensures hit { result ≡ collides H.meaning (input plain_rule (beside (side place) sibling_a.now) a.old) (input plain_rule (beside (side place) sibling_b.now) b.old) }
+    ensures first { result ≡ false → a.new ≡ above plain_rule H.meaning (beside (side place) sibling_a.now) a.old }
+    ensures second { result ≡ false → b.new ≡ above plain_rule H.meaning (beside (side place) sibling_b.now) b.old }
     ensures one { string_a.new ≡ (if result then at_front (input plain_rule (beside (side place) sibling_a.now) a.old) string_a.old else string_a.old) }
     ensures other { string_b.new ≡ (if result then at_front (input plain_rule (beside (side place) sibling_b.now) b.old) string_b.old else string_b.old) }
 {

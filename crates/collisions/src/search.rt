@@ -23,10 +23,10 @@ fn search_nodes<H: Hash>(
     requires nodes { (length a.old ≡ digest_len) × (length b.old ≡ digest_len) }
     requires paths { (digest_len * depth ≤ length path_a.now) × (digest_len * depth ≤ length path_b.now) }
     requires room { (2 * digest_len < length string_a.old) × (2 * digest_len < length string_b.old) }
-    ensures answer { result ≡ found_len (found meaning (from_node depth place path_a.now) (from_node depth place path_b.now) a.old b.old) }
-    ensures one { string_a.new ≡ put_one (found meaning (from_node depth place path_a.now) (from_node depth place path_b.now) a.old b.old) string_a.old }
-    ensures other { string_b.new ≡ put_other (found meaning (from_node depth place path_a.now) (from_node depth place path_b.now) a.old b.old) string_b.old }
-    ensures ends { result ≡ None → (a.new ≡ climb plain_rule meaning (from_node depth place path_a.now) a.old) × (b.new ≡ climb plain_rule meaning (from_node depth place path_b.now) b.old) }
+    ensures answer { result ≡ found_len (found H.meaning (from_node depth place path_a.now) (from_node depth place path_b.now) a.old b.old) }
+    ensures one { string_a.new ≡ put_one (found H.meaning (from_node depth place path_a.now) (from_node depth place path_b.now) a.old b.old) string_a.old }
+    ensures other { string_b.new ≡ put_other (found H.meaning (from_node depth place path_a.now) (from_node depth place path_b.now) a.old b.old) string_b.old }
+    ensures ends { result ≡ None → (a.new ≡ climb plain_rule H.meaning (from_node depth place path_a.now) a.old) × (b.new ≡ climb plain_rule H.meaning (from_node depth place path_b.now) b.old) }
 {
     let mut place = place;
     for i in 0..depth {
@@ -64,10 +64,10 @@ pub(crate) fn search_leaves<H: Hash>(
     requires nodes { (length a.old ≡ digest_len) × (length b.old ≡ digest_len) }
     requires paths { (digest_len * depth ≤ length path_a.now) × (digest_len * depth ≤ length path_b.now) }
     requires room { (length value_a.now < length string_a.old) × ((length value_b.now < length string_b.old) × ((2 * digest_len < length string_a.old) × (2 * digest_len < length string_b.old))) }
-    ensures answer { result ≡ found_len (found meaning (from_leaf depth place path_a.now) (from_leaf depth place path_b.now) value_a.now value_b.now) }
-    ensures one { string_a.new ≡ put_one (found meaning (from_leaf depth place path_a.now) (from_leaf depth place path_b.now) value_a.now value_b.now) string_a.old }
-    ensures other { string_b.new ≡ put_other (found meaning (from_leaf depth place path_a.now) (from_leaf depth place path_b.now) value_a.now value_b.now) string_b.old }
-    ensures ends { result ≡ None → (a.new ≡ climb plain_rule meaning (from_leaf depth place path_a.now) value_a.now) × (b.new ≡ climb plain_rule meaning (from_leaf depth place path_b.now) value_b.now) }
+    ensures answer { result ≡ found_len (found H.meaning (from_leaf depth place path_a.now) (from_leaf depth place path_b.now) value_a.now value_b.now) }
+    ensures one { string_a.new ≡ put_one (found H.meaning (from_leaf depth place path_a.now) (from_leaf depth place path_b.now) value_a.now value_b.now) string_a.old }
+    ensures other { string_b.new ≡ put_other (found H.meaning (from_leaf depth place path_a.now) (from_leaf depth place path_b.now) value_a.now value_b.now) string_b.old }
+    ensures ends { result ≡ None → (a.new ≡ climb plain_rule H.meaning (from_leaf depth place path_a.now) value_a.now) × (b.new ≡ climb plain_rule H.meaning (from_leaf depth place path_b.now) value_b.now) }
 {
     if leaf_level::<H>(value_a, value_b, a, b, string_a, string_b) {
         return Some(value_a.len() + 1);

@@ -54,7 +54,7 @@ fn row_root<H: Hash>(
 )
     requires shape { (width ≡ 2 ^ depth) × ((width ≤ 64) × (depth ≤ 6)) }
     requires room { (digest_len * (base + width) ≤ length row.now) × ((length tree.old ≡ tree_len depth) × (length top.old ≡ digest_len)) }
-    ensures { top.new ≡ root (join_of plain_rule meaning) depth (λ p. slot (base + p) row.now) }
+    ensures { top.new ≡ root (join_of plain_rule H.meaning) depth (λ p. slot (base + p) row.now) }
 {
     copy_entries(row, base, width, tree, 0);
     grow::<H>(tree, depth);
@@ -72,7 +72,7 @@ fn put_row_root<H: Hash>(
 )
     requires shape { (width ≡ 2 ^ depth) × ((width ≤ 64) × (depth ≤ 6)) }
     requires room { (digest_len * (base + width) ≤ length row.now) × (digest_len * n + digest_len ≤ length roots.old) }
-    ensures { roots.new ≡ over (digest_len * n) (root (join_of plain_rule meaning) depth (λ p. slot (base + p) row.now)) roots.old }
+    ensures { roots.new ≡ over (digest_len * n) (root (join_of plain_rule H.meaning) depth (λ p. slot (base + p) row.now)) roots.old }
 {
     let mut space = [0u8; TREE_ROOM];
     let mut top = [0u8; DIGEST_LEN];
@@ -94,9 +94,9 @@ fn put_row<H: Hash>(
 )
     requires shape { (size ≤ 512) × ((width ≡ 2 ^ depth) × ((width ≤ 64) × ((depth ≤ 6) × (i < width)))) }
     requires room { (length square.now ≡ width * width * size) × ((digest_len * (base + width) ≤ length work.old) × (length roots.old ≡ digest_len * (2 * width))) }
-    ensures leaves { (j : ℕ) → j < width → slot (base + j) work.new ≡ line_leaf meaning width size square.now i j }
+    ensures leaves { (j : ℕ) → j < width → slot (base + j) work.new ≡ line_leaf H.meaning width size square.now i j }
     ensures kept { (m : ℕ) → m < base → slot m work.new ≡ slot m work.old }
-    ensures root { roots.new ≡ over (digest_len * i) (root (join_of plain_rule meaning) depth (line_leaf meaning width size square.now i)) roots.old }
+    ensures root { roots.new ≡ over (digest_len * i) (root (join_of plain_rule H.meaning) depth (line_leaf H.meaning width size square.now i)) roots.old }
 {
     put_line::<H>(square, size, width, i, base, work);
     put_row_root::<H>(work, base, width, depth, i, roots);
@@ -105,7 +105,7 @@ fn put_row<H: Hash>(
 // Writes the node over entries a and b to entry a.
 fn join_entry<H: Hash>(work: &mut [u8], a: usize, b: usize)
     requires { (digest_len * a + digest_len ≤ length work.old) × (digest_len * b + digest_len ≤ length work.old) }
-    ensures { work.new ≡ over (digest_len * a) (join_of plain_rule meaning (slot a work.old) (slot b work.old)) work.old }
+    ensures { work.new ≡ over (digest_len * a) (join_of plain_rule H.meaning (slot a work.old) (slot b work.old)) work.old }
 {
     let mut node = [0u8; DIGEST_LEN];
     let _ = node_digest::<H>(
@@ -119,7 +119,7 @@ fn join_entry<H: Hash>(work: &mut [u8], a: usize, b: usize)
 // Joins the row of digests at `base` with the one behind it, place by place.
 fn join_rows<H: Hash>(work: &mut [u8], base: usize, width: usize)
     requires { digest_len * (base + width + width) ≤ length work.old }
-    ensures joined { (j : ℕ) → j < width → slot (base + j) work.new ≡ join_of plain_rule meaning (slot (base + j) work.old) (slot (base + width + j) work.old) }
+    ensures joined { (j : ℕ) → j < width → slot (base + j) work.new ≡ join_of plain_rule H.meaning (slot (base + j) work.old) (slot (base + width + j) work.old) }
     ensures kept { (m : ℕ) → m < base → slot m work.new ≡ slot m work.old }
 {
     for j in 0..width {
@@ -142,10 +142,10 @@ pub(crate) fn fold<H: Hash>(
 )
     requires shape { (size ≤ 512) × ((width ≡ 2 ^ depth) × ((width ≤ 64) × ((depth ≤ 6) × ((i + 1) * 2 ^ level ≤ width)))) }
     requires room { (length square.now ≡ width * width * size) × ((digest_len * (base + width * level + width) ≤ length work.old) × (length roots.old ≡ digest_len * (2 * width))) }
-    requires done { (n : ℕ) → n < i * 2 ^ level → slot n roots.old ≡ root (join_of plain_rule meaning) depth (line_leaf meaning width size square.now n) }
-    ensures columns { (j : ℕ) → j < width → slot (base + j) work.new ≡ node (join_of plain_rule meaning) (line_leaf meaning width size square.now (width + j)) level i }
+    requires done { (n : ℕ) → n < i * 2 ^ level → slot n roots.old ≡ root (join_of plain_rule H.meaning) depth (line_leaf H.meaning width size square.now n) }
+    ensures columns { (j : ℕ) → j < width → slot (base + j) work.new ≡ node (join_of plain_rule H.meaning) (line_leaf H.meaning width size square.now (width + j)) level i }
     ensures kept { (m : ℕ) → m < base → slot m work.new ≡ slot m work.old }
-    ensures rows { (n : ℕ) → n < (i + 1) * 2 ^ level → slot n roots.new ≡ root (join_of plain_rule meaning) depth (line_leaf meaning width size square.now n) }
+    ensures rows { (n : ℕ) → n < (i + 1) * 2 ^ level → slot n roots.new ≡ root (join_of plain_rule H.meaning) depth (line_leaf H.meaning width size square.now n) }
 {
     if level == 0 {
         put_row::<H>(square, size, width, depth, i, base, work, roots);

@@ -23,7 +23,7 @@ pub(crate) fn put_line<H: Hash>(
 )
     requires line { (size ≤ 512) × ((width ≤ 64) × (n < 2 * width)) }
     requires room { (length square.now ≡ width * width * size) × (digest_len * (base + width) ≤ length entries.old) }
-    ensures leaves { (j : ℕ) → j < width → slot (base + j) entries.new ≡ line_leaf meaning width size square.now n j }
+    ensures leaves { (j : ℕ) → j < width → slot (base + j) entries.new ≡ line_leaf H.meaning width size square.now n j }
     ensures kept { (m : ℕ) → m < base → slot m entries.new ≡ slot m entries.old }
 {
     for p in 0..width {
@@ -42,7 +42,7 @@ fn grow_line<H: Hash>(
 )
     requires line { (size ≤ 512) × ((width ≤ 64) × ((n < 2 * width) × ((width ≡ 2 ^ depth) × (depth ≤ 6)))) }
     requires room { (length square.now ≡ width * width * size) × (length tree.old ≡ tree_len depth) }
-    ensures { tree.new ≡ tree_layout (join_of plain_rule meaning) depth (line_leaf meaning width size square.now n) }
+    ensures { tree.new ≡ tree_layout (join_of plain_rule H.meaning) depth (line_leaf H.meaning width size square.now n) }
 {
     put_line::<H>(square, size, width, n, 0, tree);
     grow::<H>(tree, depth);
@@ -52,7 +52,7 @@ fn grow_line<H: Hash>(
 // writes nothing.
 pub fn line_tree<H: Hash>(h: &Header, square: &[u8], n: usize, tree: &mut [u8]) -> bool
     ensures answer { result ≡ line_fits (fields_of h.now) n (length square.now) (length tree.old) }
-    ensures written { tree.new ≡ (if line_fits (fields_of h.now) n (length square.now) (length tree.old) then line_tree meaning (fields_of h.now) square.now n else tree.old) }
+    ensures written { tree.new ≡ (if line_fits (fields_of h.now) n (length square.now) (length tree.old) then line_tree H.meaning (fields_of h.now) square.now n else tree.old) }
 {
     let m = h.lengths();
     if n >= m.lines || square.len() != m.square || tree.len() != m.axis_tree {

@@ -35,7 +35,7 @@ fn put_roots<H: Hash>(
 )
     requires shape { (size ≤ 512) × ((width ≤ 64) × ((width ≡ 2 ^ depth) × (depth ≤ 6))) }
     requires room { (length square.now ≡ width * width * size) × ((digest_len * (width * depth + width) ≤ length work.old) × (length roots.old ≡ digest_len * (2 * width))) }
-    ensures { roots.new ≡ square_roots meaning width depth size square.now }
+    ensures { roots.new ≡ square_roots H.meaning width depth size square.now }
 {
     fold::<H>(square, size, width, depth, depth, 0, 0, work, roots);
     copy_entries(work, 0, width, roots, width);
@@ -45,7 +45,7 @@ fn put_roots<H: Hash>(
 // writes nothing.
 pub fn square_roots<H: Hash>(h: &Header, square: &[u8], roots: &mut [u8]) -> bool
     ensures answer { result ≡ square_fits (fields_of h.now) (length square.now) (length roots.old) }
-    ensures written { roots.new ≡ (if square_fits (fields_of h.now) (length square.now) (length roots.old) then roots_of meaning (fields_of h.now) square.now else roots.old) }
+    ensures written { roots.new ≡ (if square_fits (fields_of h.now) (length square.now) (length roots.old) then roots_of H.meaning (fields_of h.now) square.now else roots.old) }
 {
     let n = h.lengths();
     if square.len() != n.square || roots.len() != n.roots {

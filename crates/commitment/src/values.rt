@@ -28,7 +28,7 @@ pub(crate) fn put_leaf<H: Hash>(
 )
     requires value { (size ≤ parts_limit) × ((from < 2 ^ 32) × (from * size + size ≤ length values.now)) }
     requires room { digest_len * to + digest_len ≤ length entries.old }
-    ensures { entries.new ≡ over (digest_len * to) (value_leaf meaning size values.now from) entries.old }
+    ensures { entries.new ≡ over (digest_len * to) (value_leaf H.meaning size values.now from) entries.old }
 {
     let mut leaf = [0u8; DIGEST_LEN];
     let _ = leaf_digest::<H>(&values[from * size..from * size + size], &mut leaf);
@@ -38,7 +38,7 @@ pub(crate) fn put_leaf<H: Hash>(
 // Writes the digests of `count` values as entries one after the other.
 pub(crate) fn put_leaves<H: Hash>(values: &[u8], size: usize, count: usize, entries: &mut [u8])
     requires { (size ≤ parts_limit) × ((count < 2 ^ 32) × ((length values.now ≡ count * size) × (digest_len * count ≤ length entries.old))) }
-    ensures { (j : ℕ) → j < count → slot j entries.new ≡ value_leaf meaning size values.now j }
+    ensures { (j : ℕ) → j < count → slot j entries.new ≡ value_leaf H.meaning size values.now j }
 {
     for i in 0..count {
         put_leaf::<H>(values, size, i, entries, i);
@@ -54,7 +54,7 @@ fn tree_fits(depth: usize, size: usize, len: usize, room: usize) -> bool
 
 fn grow_values<H: Hash>(values: &[u8], size: usize, depth: usize, tree: &mut [u8])
     requires { (depth ≤ 16) × ((size ≤ parts_limit) × ((length values.now ≡ 2 ^ depth * size) × (length tree.old ≡ tree_len depth))) }
-    ensures { tree.new ≡ value_tree meaning depth size values.now }
+    ensures { tree.new ≡ value_tree H.meaning depth size values.now }
 {
     put_leaves::<H>(values, size, leaves(depth), tree);
     grow::<H>(tree, depth);
@@ -63,7 +63,7 @@ fn grow_values<H: Hash>(values: &[u8], size: usize, depth: usize, tree: &mut [u8
 // Lays out the tree over 2^depth values of `size` bytes. Where the lengths do not fit, it answers false and writes nothing.
 pub fn value_tree<H: Hash>(values: &[u8], size: usize, depth: usize, tree: &mut [u8]) -> bool
     ensures answer { result ≡ tree_fits depth size (length values.now) (length tree.old) }
-    ensures written { tree.new ≡ (if tree_fits depth size (length values.now) (length tree.old) then value_tree meaning depth size values.now else tree.old) }
+    ensures written { tree.new ≡ (if tree_fits depth size (length values.now) (length tree.old) then value_tree H.meaning depth size values.now else tree.old) }
 {
     let fits = tree_fits(depth, size, values.len(), tree.len());
     if fits {
@@ -75,7 +75,7 @@ pub fn value_tree<H: Hash>(values: &[u8], size: usize, depth: usize, tree: &mut 
 // Writes the root of the tree over 2^depth values, which is worked out in `tree`.
 fn root_to<H: Hash>(values: &[u8], size: usize, depth: usize, tree: &mut [u8], top: &mut [u8])
     requires { (depth ≤ 16) × ((size ≤ parts_limit) × ((length values.now ≡ 2 ^ depth * size) × ((length tree.old ≡ tree_len depth) × (length top.old ≡ digest_len)))) }
-    ensures { top.new ≡ value_root meaning depth size values.now }
+    ensures { top.new ≡ value_root H.meaning depth size values.now }
 {
     grow_values::<H>(values, size, depth, tree);
     tree_root(tree, depth, top);
@@ -91,7 +91,7 @@ fn root_fits(depth: usize, size: usize, len: usize) -> bool
 // The root of the tree over 2^depth values of `size` bytes; none where the values have another length or the tree would be deeper
 // than a data tree.
 pub fn value_root<H: Hash>(values: &[u8], size: usize, depth: usize) -> Option<[u8; DIGEST_LEN]>
-    ensures { result ≡ (if root_fits depth size (length values.now) then Some (value_root meaning depth size values.now) else None) }
+    ensures { result ≡ (if root_fits depth size (length values.now) then Some (value_root H.meaning depth size values.now) else None) }
 {
     if !root_fits(depth, size, values.len()) {
         return None;

@@ -20,16 +20,16 @@ unfolding over
 product_none f = refl
 
 pub product_more : (m r : ℕ) (f : ℕ → ℕ) → r ≡ over mul 1 m f → mul (f m) r ≡ over mul 1 (m + 1) f
-product_more m r f e = ap (mul (f m)) e ∙ ring.over-more mul 1 m f
+product_more m r f e = ap (mul (f m)) e ∙ ring.over_more mul 1 m f
 
 pub except_more : (m j r : ℕ) (f : ℕ → ℕ) → m ≢ j → r ≡ over mul 1 m (except 1 j f) → mul (f m) r ≡ over mul 1 (m + 1) (except 1 j f)
-except_more m j r f d e = ap₂ mul (sym (ring.except-else 1 j f m d)) e ∙ ring.over-more mul 1 m (except 1 j f)
+except_more m j r f d e = ap₂ mul (sym (ring.except_else 1 j f m d)) e ∙ ring.over_more mul 1 m (except 1 j f)
 
 pub except_skip : (m j r : ℕ) (f : ℕ → ℕ) → m ≡ j → r ≡ over mul 1 m (except 1 j f) → r ≡ over mul 1 (m + 1) (except 1 j f)
 except_skip m j r f d e =
-    e ∙ sym (ring.one-prod ℕ bytes m (except 1 j f))
-    ∙ ap (λ (x : ℕ). mul x (over mul 1 m (except 1 j f))) (sym (ap (λ (i : ℕ). except 1 j f i) d ∙ ring.except-here 1 j f))
-    ∙ ring.over-more mul 1 m (except 1 j f)
+    e ∙ sym (ring.one_prod ℕ bytes m (except 1 j f))
+    ∙ ap (λ (x : ℕ). mul x (over mul 1 m (except 1 j f))) (sym (ap (λ (i : ℕ). except 1 j f i) d ∙ ring.except_here 1 j f))
+    ∙ ring.over_more mul 1 m (except 1 j f)
 
 -- ---- the weight
 
@@ -42,7 +42,7 @@ module _ (k : ℕ) (hk : k ≤ 128) (p : ℕ → ℕ) (pl : Places k p) (v : ℕ
   unfolding whole lagrange
   here e =
       subst (λ (n : ℕ). mul (mul (v n) (inv (v (p j)))) (ring.weight ℕ bytes inv k p j n) ≡ 1) e
-      (ap₂ mul (unit (p j) (pl.below j hj)) (ring.weight-here ℕ bytes inv k p (separate k p hk pl) j hj) ∙ field.one-mul-byte 1 (lit< tt))
+      (ap₂ mul (unit (p j) (pl.below j hj)) (ring.weight_here ℕ bytes inv k p (separate k p hk pl) j hj) ∙ field.one_mul_byte 1 (lit< tt))
 
   gap : ℕ
   gap = bit_xor i (p j)
@@ -56,16 +56,16 @@ module _ (k : ℕ) (hk : k ≤ 128) (p : ℕ → ℕ) (pl : Places k p) (v : ℕ
       (field.mul_assoc a (mul x o) y
       ∙ ap (mul a) (field.mul_comm (mul x o) y ∙ sym (field.mul_assoc y x o) ∙ ap (λ (z : ℕ). mul z o) (field.mul_comm y x ∙ e))
       ∙ ring.mul_left_comm ℕ bytes a 1 o ∙ bytes.one-mul a o)
-      ∙ ring.mul-four ℕ bytes a o b d
+      ∙ ring.mul_four ℕ bytes a o b d
 
   elsewhere : p j ≢ i → mul (mul (mul (v i) (numerator k p i)) (inv gap)) (mul (inv (v (p j))) (denominator k p j)) ≡ whole
   unfolding whole lagrange numerator denominator gap others
   elsewhere d =
       let b : p j < 2 * k = pl.below j hj in
       ap (λ (n : ℕ). mul (mul (mul (v i) n) (inv gap)) (mul (inv (v (p j))) (denominator k p j)))
-      (ring.prod-split ℕ bytes k j (λ m. bit_xor i (p m)) hj)
+      (ring.prod_split ℕ bytes k j (λ m. bit_xor i (p m)) hj)
       ∙ split (v i) (inv (v (p j))) others (denominator k p j) gap (inv gap) (inverse i (p j) (omega arith) (omega arith) (λ e. d (sym e)))
-      ∙ ap (mul (mul (v i) (inv (v (p j))))) (sym (ring.others-mul ℕ bytes k j (λ m. bit_xor i (p m)) (λ m. inv (bit_xor (p j) (p m)))))
+      ∙ ap (mul (mul (v i) (inv (v (p j))))) (sym (ring.others_mul ℕ bytes k j (λ m. bit_xor i (p m)) (λ m. inv (bit_xor (p j) (p m)))))
 
   pub weight_by_lem : weight_by (mul (v i) (numerator k p i)) (mul (inv (v (p j))) (denominator k p j)) i (p j)
       ≡ mul (mul (v i) (inv (v (p j)))) (lagrange k p i j)

@@ -33,21 +33,21 @@ pub bit_more : (k n : ℕ) (row d : ℕ → ℕ) → ((j : ℕ) → row j < 256)
     → applied k (λ j. row j / 2 ^ n) d ≡ bit_xor (mul 2 (applied k (λ j. row j / 2 ^ (n + 1)) d)) (applied k (λ j. row j / 2 ^ n % 2) d)
 unfolding applied
 bit_more k n row d small =
-    ring.over-same bit_xor 0 k (λ j. mul (row j / 2 ^ n) (d j)) (λ j. bit_xor (mul 2 (mul (row j / 2 ^ (n + 1)) (d j))) (mul (row j / 2 ^ n % 2) (d j)))
+    ring.over_same bit_xor 0 k (λ j. mul (row j / 2 ^ n) (d j)) (λ j. bit_xor (mul 2 (mul (row j / 2 ^ (n + 1)) (d j))) (mul (row j / 2 ^ n % 2) (d j)))
     (λ j h.
     let s : row j < 256 = small j in
     let l : row j / 2 ^ n ≤ row j = shr_le (row j) n in
     halved (row j / 2 ^ n) (d j) (omega arith)
     ∙ ap (λ (x : ℕ). bit_xor (mul 2 (mul x (d j))) (mul (row j / 2 ^ n % 2) (d j))) (shr-shr (row j) n 1))
-    ∙ ring.sum-add ℕ bytes k (λ j. mul 2 (mul (row j / 2 ^ (n + 1)) (d j))) (λ j. mul (row j / 2 ^ n % 2) (d j))
+    ∙ ring.sum_add ℕ bytes k (λ j. mul 2 (mul (row j / 2 ^ (n + 1)) (d j))) (λ j. mul (row j / 2 ^ n % 2) (d j))
     ∙ ap (λ (x : ℕ). bit_xor x (over bit_xor 0 k (λ j. mul (row j / 2 ^ n % 2) (d j))))
-    (sym (ring.sum-scale ℕ bytes 2 k (λ j. mul (row j / 2 ^ (n + 1)) (d j))))
+    (sym (ring.sum_scale ℕ bytes 2 k (λ j. mul (row j / 2 ^ (n + 1)) (d j))))
 
 -- no bit lies above the highest
 pub bit_none : (k : ℕ) (row d : ℕ → ℕ) → ((j : ℕ) → row j < 256) → 0 ≡ applied k (λ j. row j / 2 ^ 8) d
 unfolding applied
 bit_none k row d small =
-    sym (ring.sum-zero ℕ bytes k (λ j. mul (row j / 256) (d j))
+    sym (ring.sum_zero ℕ bytes k (λ j. mul (row j / 256) (d j))
     (λ j h. let s : row j < 256 = small j in let z : row j / 256 ≡ 0 = omega arith in ap (λ (x : ℕ). mul x (d j)) z ∙ field.zero-mul (d j)))
 
 -- and all stand from the lowest on
@@ -63,12 +63,12 @@ applied_none row d x = sym (xor_zero_r x)
 applied_more : (n : ℕ) (row d : ℕ → ℕ) → bit_xor (applied n row d) (mul (row n) (d n)) ≡ applied (n + 1) row d
 unfolding applied
 applied_more n row d =
-    xor_comm (over bit_xor 0 n (λ j. mul (row j) (d j))) (mul (row n) (d n)) ∙ ring.over-more bit_xor 0 n (λ j. mul (row j) (d j))
+    xor_comm (over bit_xor 0 n (λ j. mul (row j) (d j))) (mul (row n) (d n)) ∙ ring.over_more bit_xor 0 n (λ j. mul (row j) (d j))
 
 -- the term is added, or left out where its coefficient is 0
 pub more_with : (n : ℕ) (row d : ℕ → ℕ) (x y : ℕ) → row n ≡ 1 → d n < 256 → y ≡ bit_xor x (applied n row d) → bit_xor y (d n) ≡ bit_xor x (applied (n + 1) row d)
 more_with n row d x y one small e =
-    ap₂ bit_xor e (sym (ap (λ (z : ℕ). mul z (d n)) one ∙ field.one-mul-byte (d n) small))
+    ap₂ bit_xor e (sym (ap (λ (z : ℕ). mul z (d n)) one ∙ field.one_mul_byte (d n) small))
     ∙ xor_assoc x (applied n row d) (mul (row n) (d n)) ∙ ap (bit_xor x) (applied_more n row d)
 
 pub more_without : (n : ℕ) (row d : ℕ → ℕ) (x y : ℕ) → row n ≡ 0 → y ≡ bit_xor x (applied n row d) → y ≡ bit_xor x (applied (n + 1) row d)

@@ -21,11 +21,11 @@ impl Code for Polynomial {
 
     ghost weight = { scaled_weight plain_scale };
 
-    ghost first = { ProofsPolynomial.first-law };
+    ghost first = { ProofsPolynomial.first_law };
 
-    ghost second = { ProofsPolynomial.second-law };
+    ghost second = { ProofsPolynomial.second_law };
 
-    ghost weighs = { ProofsPolynomial.weight-law };
+    ghost weighs = { ProofsPolynomial.weight_law };
 
     fn kind_byte() -> u8 {
         Self::KIND
@@ -76,11 +76,11 @@ impl Code for Cauchy {
 
     ghost weight = { scaled_weight cauchy_scale };
 
-    ghost first = { ProofsCauchy.first-law };
+    ghost first = { ProofsCauchy.first_law };
 
-    ghost second = { ProofsCauchy.second-law };
+    ghost second = { ProofsCauchy.second_law };
 
-    ghost weighs = { ProofsCauchy.weight-law };
+    ghost weighs = { ProofsCauchy.weight_law };
 
     fn kind_byte() -> u8 {
         Self::KIND

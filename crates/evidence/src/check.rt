@@ -38,7 +38,7 @@ fn climb_two<H: Hash>(
     end: &mut [u8],
 )
     requires { (depth ≤ 6) × ((length share.now ≤ parts_limit) × ((length path.now ≡ digest_len * (2 * depth + 1)) × (length end.old ≡ digest_len))) }
-    ensures { end.new ≡ climb plain_rule meaning (through_two depth place (depth + 1) leaf path.now) share.now }
+    ensures { end.new ≡ climb plain_rule H.meaning (through_two depth place (depth + 1) leaf path.now) share.now }
 {
     let mut root = [0u8; DIGEST_LEN];
     climb_leaf::<H>(share, place, &path[0..DIGEST_LEN * depth], &mut root);
@@ -47,7 +47,7 @@ fn climb_two<H: Hash>(
 
 // Whether an evidence verifies at a cell.
 pub fn verified<H: Hash>(h: &Header, cell: Cell, axis: Axis, share: &[u8], path: &[u8]) -> bool
-    ensures { result ≡ verifies meaning (fields_of h.now) cell.row cell.col axis share.now path.now }
+    ensures { result ≡ verifies H.meaning (fields_of h.now) cell.row cell.col axis share.now path.now }
 {
     let n = h.lengths();
     if !h.has_cell(cell) || share.len() != n.share || path.len() != n.path {
@@ -76,7 +76,7 @@ pub fn check_share<H: Hash>(
     share: &[u8],
     path: &[u8],
 ) -> Result<(), SquareRefusal>
-    ensures { outcome told result ≡ check_outcome meaning kind (fields_of h.now) cell.row cell.col axis share.now path.now }
+    ensures { outcome told result ≡ check_outcome H.meaning H.kind (fields_of h.now) cell.row cell.col axis share.now path.now }
 {
     if h.hash_kind != H::kind_byte() {
         return Err(SquareRefusal::OtherHash);

@@ -41,7 +41,7 @@ fn put_axis_path<H: Hash>(
     requires tree { (levels ≡ depth (fields_of h.now)) × ((levels ≤ 6) × ((size ≡ axis_tree_len (fields_of h.now)) × ((size ≡ tree_len levels) × (size ≤ 4064)))) }
     requires place { (line < line_count (fields_of h.now)) × (place < 2 ^ levels) }
     requires room { (length square.now ≡ square_len (fields_of h.now)) × (length out.old ≡ digest_len * levels) }
-    ensures { out.new ≡ path_of (depth (fields_of h.now)) place (line_tree meaning (fields_of h.now) square.now line) }
+    ensures { out.new ≡ path_of (depth (fields_of h.now)) place (line_tree H.meaning (fields_of h.now) square.now line) }
 {
     let mut space = [0u8; AXIS_ROOM];
     let tree = &mut space[0..size];
@@ -53,7 +53,7 @@ fn put_axis_path<H: Hash>(
 fn put_data_path<H: Hash>(roots: &[u8], depth: usize, size: usize, leaf: usize, out: &mut [u8])
     requires tree { (depth ≤ 7) × ((size ≡ tree_len depth) × (leaf < 2 ^ depth)) }
     requires room { (length roots.now ≡ 2 ^ depth * digest_len) × (length out.old ≡ digest_len * depth) }
-    ensures { out.new ≡ path_of depth leaf (value_tree meaning depth digest_len roots.now) }
+    ensures { out.new ≡ path_of depth leaf (value_tree H.meaning depth digest_len roots.now) }
 {
     let mut space = [0u8; DATA_ROOM];
     let tree = &mut space[0..size];
@@ -72,7 +72,7 @@ fn put_path<H: Hash>(
 )
     requires cell { (cell.row < width (fields_of h.now)) × (cell.col < width (fields_of h.now)) }
     requires room { (length square.now ≡ square_len (fields_of h.now)) × ((length roots.now ≡ roots_len (fields_of h.now)) × (length path.old ≡ path_len (fields_of h.now))) }
-    ensures { path.new ≡ evidence_path meaning (fields_of h.now) square.now roots.now axis cell.row cell.col }
+    ensures { path.new ≡ evidence_path H.meaning (fields_of h.now) square.now roots.now axis cell.row cell.col }
 {
     let n = h.lengths();
     let line = line_number(axis, n.width, cell);
@@ -107,9 +107,9 @@ pub fn evidence_of<H: Hash>(
     axis: Axis,
     path: &mut [u8],
 ) -> Result<(), SquareRefusal>
-    ensures answer { outcome told result ≡ evidence_outcome kind (fields_of h.now) cell.row cell.col (length square.now) (length roots.now) (length path.old) }
-    ensures written { path.new ≡ written (evidence_outcome kind (fields_of h.now) cell.row cell.col (length square.now) (length roots.now) (length path.old)) (evidence_path meaning (fields_of h.now) square.now roots.now axis cell.row cell.col) path.old }
-    ensures proves { evidence_outcome kind (fields_of h.now) cell.row cell.col (length square.now) (length roots.now) (length path.old) ≡ Ok tt → Proves meaning (fields_of h.now) square.now roots.now axis cell.row cell.col path.new }
+    ensures answer { outcome told result ≡ evidence_outcome H.kind (fields_of h.now) cell.row cell.col (length square.now) (length roots.now) (length path.old) }
+    ensures written { path.new ≡ written (evidence_outcome H.kind (fields_of h.now) cell.row cell.col (length square.now) (length roots.now) (length path.old)) (evidence_path H.meaning (fields_of h.now) square.now roots.now axis cell.row cell.col) path.old }
+    ensures proves { evidence_outcome H.kind (fields_of h.now) cell.row cell.col (length square.now) (length roots.now) (length path.old) ≡ Ok tt → Proves H.meaning (fields_of h.now) square.now roots.now axis cell.row cell.col path.new }
 {
     if h.hash_kind != H::kind_byte() {
         return Err(SquareRefusal::OtherHash);

@@ -28,7 +28,7 @@ const PATH_ROOM: usize = 224;
 // Writes the path of a line in the data tree over some roots; `tree` is where the tree is laid out.
 fn put_data_path<H: Hash>(h: &Header, roots: &[u8], line: usize, tree: &mut [u8], path: &mut [u8])
     requires { (line < line_count (fields_of h.now)) × ((length roots.now ≡ roots_len (fields_of h.now)) × ((length tree.old ≡ data_tree_len (fields_of h.now)) × (length path.old ≡ data_path_len (fields_of h.now)))) }
-    ensures { path.new ≡ data_path meaning (fields_of h.now) roots.now line }
+    ensures { path.new ≡ data_path H.meaning (fields_of h.now) roots.now line }
 {
     let depth = h.lengths().depth + 1;
     value_tree::<H>(roots, DIGEST_LEN, depth, tree);
@@ -49,7 +49,7 @@ fn compare_roots<H: Hash>(
 ) -> Option<usize>
     requires block { (line < line_count (fields_of h.now)) × ((length roots.now ≡ roots_len (fields_of h.now)) × ((length root.now ≡ digest_len) × (length path.now ≡ data_path_len (fields_of h.now)))) }
     requires room { (length tree.old ≡ data_tree_len (fields_of h.now)) × ((length own.old ≡ data_path_len (fields_of h.now)) × ((length string_a.old ≡ string_len) × (length string_b.old ≡ string_len))) }
-    ensures { Finds meaning (from_leaf (depth (fields_of h.now) + 1) line path.now) (from_leaf (depth (fields_of h.now) + 1) line (data_path meaning (fields_of h.now) roots.now line)) root.now (slot line roots.now) result string_a.old string_b.old string_a.new string_b.new }
+    ensures { Finds H.meaning (from_leaf (depth (fields_of h.now) + 1) line path.now) (from_leaf (depth (fields_of h.now) + 1) line (data_path H.meaning (fields_of h.now) roots.now line)) root.now (slot line roots.now) result string_a.old string_b.old string_a.new string_b.new }
 {
     put_data_path::<H>(h, roots, line, tree, own);
     let mut end_a = [0u8; DIGEST_LEN];
@@ -77,7 +77,7 @@ pub(crate) fn collide_at_claim<H: Hash>(
     string_b: &mut [u8],
 ) -> Option<usize>
     requires { (Formed (fields_of h.now) p.now) × ((length roots.now ≡ roots_len (fields_of h.now)) × ((length string_a.old ≡ string_len) × (length string_b.old ≡ string_len))) }
-    ensures { Finds meaning (claim_rungs (fields_of h.now) (case_of (fields_of h.now) p.now).claim) (from_leaf (depth (fields_of h.now) + 1) (line_number (fields_of h.now) (axis_by p.now.axis) p.now.index) (data_path meaning (fields_of h.now) roots.now (line_number (fields_of h.now) (axis_by p.now.axis) p.now.index))) p.now.root.now (slot (line_number (fields_of h.now) (axis_by p.now.axis) p.now.index) roots.now) result string_a.old string_b.old string_a.new string_b.new }
+    ensures { Finds H.meaning (claim_rungs (fields_of h.now) (case_of (fields_of h.now) p.now).claim) (from_leaf (depth (fields_of h.now) + 1) (line_number (fields_of h.now) (axis_by p.now.axis) p.now.index) (data_path H.meaning (fields_of h.now) roots.now (line_number (fields_of h.now) (axis_by p.now.axis) p.now.index))) p.now.root.now (slot (line_number (fields_of h.now) (axis_by p.now.axis) p.now.index) roots.now) result string_a.old string_b.old string_a.new string_b.new }
 {
     let n = h.lengths();
     let nodes = n.data_tree;

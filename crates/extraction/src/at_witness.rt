@@ -37,10 +37,10 @@ fn compare_evidence<H: Hash>(
     string_a: &mut [u8],
     string_b: &mut [u8],
 ) -> Option<usize>
-    requires cell { (cell.row < width (fields_of h.now)) × ((cell.col < width (fields_of h.now)) × (h.now.hash_kind ≡ kind)) }
+    requires cell { (cell.row < width (fields_of h.now)) × ((cell.col < width (fields_of h.now)) × (h.now.hash_kind ≡ H.kind)) }
     requires block { (length square.now ≡ square_len (fields_of h.now)) × (length roots.now ≡ roots_len (fields_of h.now)) }
     requires parts { (length share.now ≡ h.now.s) × ((length path.now ≡ path_len (fields_of h.now)) × ((length own.old ≡ path_len (fields_of h.now)) × ((length string_a.old ≡ string_len) × (length string_b.old ≡ string_len)))) }
-    ensures { Finds meaning (evidence_rungs (fields_of h.now) axis cell.row cell.col path.now) (evidence_rungs (fields_of h.now) axis cell.row cell.col (evidence_path meaning (fields_of h.now) square.now roots.now axis cell.row cell.col)) share.now (cell_share (fields_of h.now) square.now cell.row cell.col) result string_a.old string_b.old string_a.new string_b.new }
+    ensures { Finds H.meaning (evidence_rungs (fields_of h.now) axis cell.row cell.col path.now) (evidence_rungs (fields_of h.now) axis cell.row cell.col (evidence_path H.meaning (fields_of h.now) square.now roots.now axis cell.row cell.col)) share.now (cell_share (fields_of h.now) square.now cell.row cell.col) result string_a.old string_b.old string_a.new string_b.new }
 {
     let depth = h.lengths().depth;
     let _ = evidence_of::<H>(h, square, roots, cell, axis, own);
@@ -67,10 +67,10 @@ pub(crate) fn collide_at_witness<H: Hash>(
     string_a: &mut [u8],
     string_b: &mut [u8],
 ) -> Option<usize>
-    requires cell { (p.now.index < width (fields_of h.now)) × ((w.now.place < width (fields_of h.now)) × (h.now.hash_kind ≡ kind)) }
-    requires block { (length square.now ≡ square_len (fields_of h.now)) × ((roots.now ≡ roots_of meaning (fields_of h.now) square.now) × (length roots.now ≡ roots_len (fields_of h.now))) }
+    requires cell { (p.now.index < width (fields_of h.now)) × ((w.now.place < width (fields_of h.now)) × (h.now.hash_kind ≡ H.kind)) }
+    requires block { (length square.now ≡ square_len (fields_of h.now)) × ((roots.now ≡ roots_of H.meaning (fields_of h.now) square.now) × (length roots.now ≡ roots_len (fields_of h.now))) }
     requires parts { (length w.now.share.now ≡ h.now.s) × ((length w.now.path.now ≡ path_len (fields_of h.now)) × ((length string_a.old ≡ string_len) × (length string_b.old ≡ string_len))) }
-    ensures { Finds meaning (evidence_rungs (fields_of h.now) (axis_by w.now.axis) (witness_row (case_of (fields_of h.now) p.now).claim (values_of w.now)) (witness_col (case_of (fields_of h.now) p.now).claim (values_of w.now)) w.now.path.now) (evidence_rungs (fields_of h.now) (axis_by w.now.axis) (witness_row (case_of (fields_of h.now) p.now).claim (values_of w.now)) (witness_col (case_of (fields_of h.now) p.now).claim (values_of w.now)) (own_path meaning (fields_of h.now) square.now (case_of (fields_of h.now) p.now).claim (values_of w.now))) w.now.share.now (own_share (fields_of h.now) square.now (case_of (fields_of h.now) p.now).claim (values_of w.now)) result string_a.old string_b.old string_a.new string_b.new }
+    ensures { Finds H.meaning (evidence_rungs (fields_of h.now) (axis_by w.now.axis) (witness_row (case_of (fields_of h.now) p.now).claim (values_of w.now)) (witness_col (case_of (fields_of h.now) p.now).claim (values_of w.now)) w.now.path.now) (evidence_rungs (fields_of h.now) (axis_by w.now.axis) (witness_row (case_of (fields_of h.now) p.now).claim (values_of w.now)) (witness_col (case_of (fields_of h.now) p.now).claim (values_of w.now)) (own_path H.meaning (fields_of h.now) square.now (case_of (fields_of h.now) p.now).claim (values_of w.now))) w.now.share.now (own_share (fields_of h.now) square.now (case_of (fields_of h.now) p.now).claim (values_of w.now)) result string_a.old string_b.old string_a.new string_b.new }
 {
     let len = h.lengths().path;
     let mut own = [0u8; PATH_ROOM];

@@ -24,10 +24,10 @@ pub(crate) fn compare<H: Hash>(
     string_a: &mut [u8],
     string_b: &mut [u8],
 ) -> Option<usize>
-    requires proof { (Formed (fields_of h.now) p.now) × (h.now.hash_kind ≡ kind) }
-    requires block { (length square.now ≡ square_len (fields_of h.now)) × ((roots.now ≡ roots_of meaning (fields_of h.now) square.now) × (length roots.now ≡ roots_len (fields_of h.now))) }
+    requires proof { (Formed (fields_of h.now) p.now) × (h.now.hash_kind ≡ H.kind) }
+    requires block { (length square.now ≡ square_len (fields_of h.now)) × ((roots.now ≡ roots_of H.meaning (fields_of h.now) square.now) × (length roots.now ≡ roots_len (fields_of h.now))) }
     requires room { (length string_a.old ≡ string_len) × (length string_b.old ≡ string_len) }
-    ensures { Compares meaning (fields_of h.now) square.now (case_of (fields_of h.now) p.now) result string_a.old string_b.old string_a.new string_b.new }
+    ensures { Compares H.meaning (fields_of h.now) square.now (case_of (fields_of h.now) p.now) result string_a.old string_b.old string_a.new string_b.new }
 {
     match first_against(h, square, p) {
         Some(w) => collide_at_witness::<H>(h, square, roots, p, &w, string_a, string_b),

@@ -33,10 +33,10 @@ fn extract_from<H: Hash>(
     string_a: &mut [u8],
     string_b: &mut [u8],
 ) -> Option<usize>
-    requires kinds { h.now.hash_kind ≡ kind }
-    requires block { (length square.now ≡ square_len (fields_of h.now)) × ((roots.now ≡ roots_of meaning (fields_of h.now) square.now) × (length roots.now ≡ roots_len (fields_of h.now))) }
+    requires kinds { h.now.hash_kind ≡ H.kind }
+    requires block { (length square.now ≡ square_len (fields_of h.now)) × ((roots.now ≡ roots_of H.meaning (fields_of h.now) square.now) × (length roots.now ≡ roots_len (fields_of h.now))) }
     requires room { (length string_a.old ≡ string_len) × (length string_b.old ≡ string_len) }
-    ensures { (p : Case) → case_outcome (fields_of h.now) bytes.now ≡ Ok p → Compares meaning (fields_of h.now) square.now p result string_a.old string_b.old string_a.new string_b.new }
+    ensures { (p : Case) → case_outcome (fields_of h.now) bytes.now ≡ Ok p → Compares H.meaning (fields_of h.now) square.now p result string_a.old string_b.old string_a.new string_b.new }
 {
     match read_proof(h, bytes) {
         Ok(p) => compare::<H>(h, square, roots, &p, string_a, string_b),

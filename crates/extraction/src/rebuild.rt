@@ -19,7 +19,7 @@ use header::header::Header;
 // Whether the data root over some roots is the header's.
 fn is_header_of<H: Hash>(h: &Header, roots: &[u8]) -> bool
     requires { length roots.now ≡ roots_len (fields_of h.now) }
-    ensures { result ≡ bytes_eq (data_root_of meaning (fields_of h.now) roots.now) h.now.data_root }
+    ensures { result ≡ bytes_eq (data_root_of H.meaning (fields_of h.now) roots.now) h.now.data_root }
 {
     let depth = h.lengths().depth;
     match value_root::<H>(roots, DIGEST_LEN, depth + 1) {

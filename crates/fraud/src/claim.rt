@@ -16,7 +16,7 @@ use header::header::Header;
 // Whether the claimed root is under the data root.
 pub(crate) fn is_committed<H: Hash>(h: &Header, p: &Proof) -> bool
     requires { Formed (fields_of h.now) p.now }
-    ensures { result ≡ is_committed meaning (fields_of h.now) (case_of (fields_of h.now) p.now).claim }
+    ensures { result ≡ is_committed H.meaning (fields_of h.now) (case_of (fields_of h.now) p.now).claim }
 {
     let leaf = line_number(h, axis_by(p.axis), p.index);
     let mut end = [0u8; DIGEST_LEN];

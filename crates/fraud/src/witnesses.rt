@@ -39,7 +39,7 @@ pub(crate) fn put_places(h: &Header, p: &Proof, places: &mut [u16])
 
 // Whether a witness verifies at the cell at its own place of the claimed line.
 fn is_verified<H: Hash>(h: &Header, p: &Proof, w: Witness) -> bool
-    ensures { result ≡ vouches meaning (fields_of h.now) (case_of (fields_of h.now) p.now).claim (values_of w.entry) }
+    ensures { result ≡ vouches H.meaning (fields_of h.now) (case_of (fields_of h.now) p.now).claim (values_of w.entry) }
 {
     let cell = witness_cell(p, &w);
     verified::<H>(h, cell, axis_by(w.axis), w.share, w.path)
@@ -48,7 +48,7 @@ fn is_verified<H: Hash>(h: &Header, p: &Proof, w: Witness) -> bool
 // The number of the first of the first n witnesses that does not verify.
 fn unverified_below<H: Hash>(h: &Header, p: &Proof, n: usize) -> Option<usize>
     requires { (Formed (fields_of h.now) p.now) × (n ≤ (fields_of h.now).k) }
-    ensures { result ≡ first_failing (vouches meaning (fields_of h.now) (case_of (fields_of h.now) p.now).claim) 0 (map (witness_at (fields_of h.now) p.now.witnesses.now) (range_with_len 0 n)) }
+    ensures { result ≡ first_failing (vouches H.meaning (fields_of h.now) (case_of (fields_of h.now) p.now).claim) 0 (map (witness_at (fields_of h.now) p.now.witnesses.now) (range_with_len 0 n)) }
 {
     for i in 0..n {
         if !is_verified::<H>(h, p, take_witness(h, p, i)) {
@@ -61,7 +61,7 @@ fn unverified_below<H: Hash>(h: &Header, p: &Proof, n: usize) -> Option<usize>
 // The number of the first witness that does not verify.
 pub(crate) fn first_unverified<H: Hash>(h: &Header, p: &Proof) -> Option<usize>
     requires { Formed (fields_of h.now) p.now }
-    ensures { result ≡ first_failing (vouches meaning (fields_of h.now) (case_of (fields_of h.now) p.now).claim) 0 (case_of (fields_of h.now) p.now).witnesses }
+    ensures { result ≡ first_failing (vouches H.meaning (fields_of h.now) (case_of (fields_of h.now) p.now).claim) 0 (case_of (fields_of h.now) p.now).witnesses }
 {
     unverified_below::<H>(h, p, h.k as usize)
 }

@@ -51,7 +51,7 @@ fn put_cell<H: Hash>(
 )
     requires fits { (0 < length row.now) × ((length records.now ≡ length row.now * size) × ((9 + length sum.old ≤ size) × (length sum.old ≤ 512))) }
     requires room { digest_len * i + digest_len ≤ length entries.old }
-    ensures { entries.new ≡ over (digest_len * i) (leaf_of plain_rule meaning (row_sum row.now size 9 (length sum.old) records.now)) entries.old }
+    ensures { entries.new ≡ over (digest_len * i) (leaf_of plain_rule H.meaning (row_sum row.now size 9 (length sum.old) records.now)) entries.old }
 {
     apply_row(row, records, size, SHARE_AT, sum);
     let mut leaf = [0u8; DIGEST_LEN];
@@ -70,7 +70,7 @@ fn put_cells<H: Hash>(
 )
     requires table { (0 < k) × ((k < 33) × ((length rows.now ≡ 2 * k * k) × (length records.now ≡ k * size))) }
     requires room { (9 + length sum.old ≤ size) × ((length sum.old ≤ 512) × (digest_len * (2 * k) ≤ length entries.old)) }
-    ensures { (j : ℕ) → j < 2 * k → slot j entries.new ≡ leaf_of plain_rule meaning (row_sum (share k j rows.now) size 9 (length sum.old) records.now) }
+    ensures { (j : ℕ) → j < 2 * k → slot j entries.new ≡ leaf_of plain_rule H.meaning (row_sum (share k j rows.now) size 9 (length sum.old) records.now) }
 {
     for i in 0..2 * k {
         put_cell::<H>(&rows[i * k..i * k + k], records, size, sum, entries, i);
@@ -92,7 +92,7 @@ fn root_of_rows<H: Hash>(
     requires table { (0 < k) × ((k < 33) × ((length rows.now ≡ 2 * k * k) × (length records.now ≡ k * size))) }
     requires room { (9 + length sum.old ≤ size) × (length sum.old ≤ 512) }
     requires shape { (2 * k ≡ 2 ^ depth) × ((depth ≤ 6) × ((length tree.old ≡ tree_len depth) × (length top.old ≡ digest_len))) }
-    ensures { top.new ≡ root (join_of plain_rule meaning) depth (λ j. leaf_of plain_rule meaning (row_sum (share k j rows.now) size 9 (length sum.old) records.now)) }
+    ensures { top.new ≡ root (join_of plain_rule H.meaning) depth (λ j. leaf_of plain_rule H.meaning (row_sum (share k j rows.now) size 9 (length sum.old) records.now)) }
 {
     put_cells::<H>(rows, k, records, size, sum, tree);
     grow::<H>(tree, depth);

@@ -36,7 +36,7 @@ fn put_row_tree<H: Hash>(
 )
     requires tree { (size ≡ axis_tree_len (fields_of h.now)) × ((size ≤ 4064) × (row < line_count (fields_of h.now))) }
     requires room { (length square.now ≡ square_len (fields_of h.now)) × (at + size ≤ length image.old) }
-    ensures { image.new ≡ over at (line_tree meaning (fields_of h.now) square.now row) image.old }
+    ensures { image.new ≡ over at (line_tree H.meaning (fields_of h.now) square.now row) image.old }
 {
     let mut space = [0u8; AXIS_ROOM];
     let tree = &mut space[0..size];
@@ -55,7 +55,7 @@ fn put_row_trees<H: Hash>(
 )
     requires tree { (size ≡ axis_tree_len (fields_of h.now)) × ((size ≤ 4064) × ((rows ≡ width (fields_of h.now)) × (rows ≤ 64))) }
     requires room { (length square.now ≡ square_len (fields_of h.now)) × ((start + rows * size ≤ length image.old) × (start ≤ 2097152)) }
-    ensures { take (start + rows * size) image.new ≡ take start image.old ++ row_trees meaning (fields_of h.now) square.now rows }
+    ensures { take (start + rows * size) image.new ≡ take start image.old ++ row_trees H.meaning (fields_of h.now) square.now rows }
 {
     for row in 0..rows {
         put_row_tree::<H>(h, square, row, size, start + row * size, image);
@@ -74,7 +74,7 @@ fn put_data_tree<H: Hash>(
 )
     requires tree { (levels ≡ depth (fields_of h.now) + 1) × ((levels ≤ 7) × (length tree.old ≡ data_tree_len (fields_of h.now))) }
     requires room { (length square.now ≡ square_len (fields_of h.now)) × ((length roots.old ≡ roots_len (fields_of h.now)) × (at + data_tree_len (fields_of h.now) ≤ length image.old)) }
-    ensures { image.new ≡ over at (data_tree meaning (fields_of h.now) square.now) image.old }
+    ensures { image.new ≡ over at (data_tree H.meaning (fields_of h.now) square.now) image.old }
 {
     square_roots::<H>(h, square, roots);
     value_tree::<H>(roots, DIGEST_LEN, levels, tree);
@@ -93,7 +93,7 @@ fn append_data_tree<H: Hash>(
 )
     requires tree { (levels ≡ depth (fields_of h.now) + 1) × ((levels ≤ 7) × ((size ≡ data_tree_len (fields_of h.now)) × (size ≤ 8160))) }
     requires room { (length square.now ≡ square_len (fields_of h.now)) × ((many ≡ roots_len (fields_of h.now)) × ((many ≤ 4096) × (at + size ≤ length image.old))) }
-    ensures { image.new ≡ over at (data_tree meaning (fields_of h.now) square.now) image.old }
+    ensures { image.new ≡ over at (data_tree H.meaning (fields_of h.now) square.now) image.old }
 {
     let mut root_space = [0u8; ROOTS_ROOM];
     let mut tree_space = [0u8; DATA_ROOM];
@@ -104,7 +104,7 @@ fn append_data_tree<H: Hash>(
 
 fn fill_image<H: Hash>(h: &Header, square: &[u8], image: &mut [u8])
     requires { (length square.now ≡ square_len (fields_of h.now)) × (length image.old ≡ image_len (fields_of h.now)) }
-    ensures { image.new ≡ image_of meaning (fields_of h.now) square.now }
+    ensures { image.new ≡ image_of H.meaning (fields_of h.now) square.now }
 {
     let n = h.lengths();
     let trees = n.width * n.axis_tree;
@@ -136,8 +136,8 @@ pub fn lay_out_image<H: Hash>(
     square: &[u8],
     image: &mut [u8],
 ) -> Result<(), SquareRefusal>
-    ensures answer { outcome told result ≡ image_outcome kind (fields_of h.now) (length square.now) (length image.old) }
-    ensures laid { image.new ≡ written (image_outcome kind (fields_of h.now) (length square.now) (length image.old)) (image_of meaning (fields_of h.now) square.now) image.old }
+    ensures answer { outcome told result ≡ image_outcome H.kind (fields_of h.now) (length square.now) (length image.old) }
+    ensures laid { image.new ≡ written (image_outcome H.kind (fields_of h.now) (length square.now) (length image.old)) (image_of H.meaning (fields_of h.now) square.now) image.old }
 {
     if h.hash_kind != H::kind_byte() {
         return Err(SquareRefusal::OtherHash);

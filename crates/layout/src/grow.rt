@@ -15,7 +15,7 @@ use hash::limits::DIGEST_LEN;
 // Writes the node over entries 2i and 2i + 1 to entry `to`.
 fn join_pair<H: Hash>(tree: &mut [u8], i: usize, to: usize)
     requires { (2 * i + 2 ≤ to) × (digest_len * to + digest_len ≤ length tree.old) }
-    ensures { tree.new ≡ over (digest_len * to) (join_of plain_rule meaning (slot (2 * i) tree.old) (slot (2 * i + 1) tree.old)) tree.old }
+    ensures { tree.new ≡ over (digest_len * to) (join_of plain_rule H.meaning (slot (2 * i) tree.old) (slot (2 * i + 1) tree.old)) tree.old }
 {
     let at = 2 * DIGEST_LEN * i;
     let mut node = [0u8; DIGEST_LEN];
@@ -30,7 +30,7 @@ fn join_pair<H: Hash>(tree: &mut [u8], i: usize, to: usize)
 // Writes the entries behind the first `n`, which are the leaves.
 fn join_all<H: Hash>(tree: &mut [u8], depth: usize, n: usize)
     requires { (n ≡ 2 ^ depth) × (length tree.old ≡ tree_len depth) }
-    ensures { tree.new ≡ tree_layout (join_of plain_rule meaning) depth (λ i. slot i tree.old) }
+    ensures { tree.new ≡ tree_layout (join_of plain_rule H.meaning) depth (λ i. slot i tree.old) }
 {
     for i in 0..n - 1 {
         join_pair::<H>(tree, i, n + i);
@@ -41,7 +41,7 @@ fn join_all<H: Hash>(tree: &mut [u8], depth: usize, n: usize)
 // such a tree, it answers false.
 pub fn grow<H: Hash>(tree: &mut [u8], depth: usize) -> bool
     ensures answer { result ≡ is_tree depth (length tree.old) }
-    ensures written { tree.new ≡ grown meaning depth tree.old }
+    ensures written { tree.new ≡ grown H.meaning depth tree.old }
 {
     let fits = is_tree(depth, tree.len());
     if fits {
