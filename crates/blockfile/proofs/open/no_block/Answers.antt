@@ -2,6 +2,6 @@ use Rattle.std.proofs.Common.{refl}
 use Rattle.erasure.specs.Limits.{ok_width, ok_size}
 use Rattle.blockfile.proofs.open.no_block.Goals as goal
 
-pub invariant-of-result : goal.invariant-of-result
+pub invariant_of-result : goal.invariant_of-result
 unfolding ok_width ok_size
-invariant-of-result c = (refl, (refl, tt))
+invariant_of-result c = (refl, (refl, tt))

@@ -33,8 +33,8 @@ returns-in-err-walk c =
     let r = bad_groups bs c.args.file.now (omega arith) h c.in-ok-header.ensures c.in-ok-roots.roots.now c.in-ok-roots.ensures c.in-err-walk.field-0.0 c.walk.new.index w in
     rw (q.1, q.2) record { answer = r.answer; opened = r.opened }
 
-pub invariant-of-file : goal.invariant-of-file
-invariant-of-file c =
+pub invariant_of-file : goal.invariant_of-file
+invariant_of-file c =
     let h = fields_of c.in-ok-header.header in
     let bs = c.args.bytes.now in
     let place : 44 + 6 + c.lengths.result.roots ≡ groups_place h = omega (arith, ap (λ l. l.roots) c.lengths.ensures) in

@@ -51,6 +51,6 @@ returns g c =
     record {
       answer = sym e;
       word = encoded g.C.Code.table g.met.C.Code.first k s wide xs c.copy_from_slice.new.self (drop (k * s - 0) old) c.parity.new.out f.0
-          (simp length-drop (omega (arith, f.1))) (λ n. (c.type-inv.shares n).fits) c.copy_from_slice.ensures.after c.parity.ensures.rest
+          (simp length-drop (omega (arith, f.1))) (λ n. (c.type_inv.shares n).fits) c.copy_from_slice.ensures.after c.parity.ensures.rest
           ∙ sym (ap (λ o. written o (codeword g.C.Code.table k s xs) old) e);
     }

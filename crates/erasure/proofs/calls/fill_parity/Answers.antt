@@ -18,8 +18,8 @@ overflow_mul-rows-2 g c =
     let r : 2 * k * k ≤ 2048 = room k (width_most k c.requires.0) in
     record { fits = omega arith }
 
-pub slice-bounds-space-end : goal.slice-bounds-space-end
-slice-bounds-space-end g c = room (length c.args.places.now) (width_most (length c.args.places.now) c.requires.0)
+pub slice_bounds-space-end : goal.slice_bounds-space-end
+slice_bounds-space-end g c = room (length c.args.places.now) (width_most (length c.args.places.now) c.requires.0)
 
 pub overflow_mul-k : goal.overflow_mul-k
 overflow_mul-k g c =

@@ -16,8 +16,8 @@ overflow_mul-rows-2 g c =
     let r : 2 * k * k ≤ 2048 = room k (width_most k c.requires.0) in
     record { fits = omega arith }
 
-pub slice-bounds-space-end : goal.slice-bounds-space-end
-slice-bounds-space-end g c = room (length c.args.places.now) (width_most (length c.args.places.now) c.requires.0)
+pub slice_bounds-space-end : goal.slice_bounds-space-end
+slice_bounds-space-end g c = room (length c.args.places.now) (width_most (length c.args.places.now) c.requires.0)
 
 pub apply_rows-requires : goal.apply_rows-requires
 apply_rows-requires g c =
@@ -35,7 +35,7 @@ returns g c =
     let old : List ℕ = take (2 * k * k - 0) (drop 0 (replicate {A = ℕ} 2048 0)) in
     through_from_weights g.C.Code.table W g.met.C.Code.weighs k s (omega arith) ps c.args.shares.now c.apply_rows.new.out
     (rising_places k ps refl c.requires.1.0) c.requires.1.1.1.0 (c.apply_rows.auto.out ∙ c.requires.1.1.1.1)
-    (λ n. (c.type-inv.shares n).fits)
+    (λ n. (c.type_inv.shares n).fits)
     (λ i hi b hb. c.apply_rows.ensures i hi b hb
     ∙ applied_row k (λ j. byte_of k i j c.weights.new.rows) (W k (at ps) i) (λ j. byte_of s j b c.args.shares.now)
     (λ j hj. ap (byte_of k i j) c.weights.ensures

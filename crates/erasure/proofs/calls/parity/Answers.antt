@@ -8,8 +8,8 @@ use Rattle.erasure.proofs.Recovers.{places_long}
 use Rattle.erasure.proofs.Parity.{parity_parts, rest_from_bytes}
 use Rattle.erasure.proofs.calls.parity.Goals as goal
 
-pub slice-bounds-space-end : goal.slice-bounds-space-end
-slice-bounds-space-end g c =
+pub slice_bounds-space-end : goal.slice_bounds-space-end
+slice_bounds-space-end g c =
     width_most c.args.k (parity_parts c.args.k c.args.size (length c.args.shares.now) (length c.args.out.now) (sym c.if-not-parity_fits.ensures)).wide
 
 pub count_places-requires : goal.count_places-requires

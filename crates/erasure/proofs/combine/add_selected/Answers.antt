@@ -15,8 +15,8 @@ pub loop-j-init : goal.loop-j-init
 loop-j-init c = λ b h.
     applied_none (λ j. at c.args.row.now j / 2 ^ c.args.bit % 2) (λ j. byte_of c.args.size j (c.args.from + b) c.args.shares.now) (get_or c.args.sum.now b 0)
 
-pub slice-bounds-add_share-end : goal.slice-bounds-add_share-end
-slice-bounds-add_share-end c =
+pub slice_bounds-add_share-end : goal.slice_bounds-add_share-end
+slice_bounds-add_share-end c =
     share_end c.loop-j.j (length c.args.row.now) c.args.size (length c.args.shares.now) c.loop-j-test.true c.requires.1.0
 
 -- byte b after that part of share j was added
@@ -41,7 +41,7 @@ loop-j-preserved c = λ b h.
           ∙ with_share c.loop-j.sum w.add_share.new.sum c.args.shares.now c.args.size c.args.from c.loop-j.j b w.add_share.ensures
           (omega arith) (omega arith)
           ∙ more_with c.loop-j.j row d start (get_or c.loop-j.sum b 0) w.if-row-j-eq1.true
-          (c.type-inv.shares (c.loop-j.j * c.args.size + (c.args.from + b))).fits (c.loop-j.invariant b h)
+          (c.type_inv.shares (c.loop-j.j * c.args.size + (c.args.from + b))).fits (c.loop-j.invariant b h)
       | else-row-j-eq1 w ↦
           ap (λ zs. get_or zs b 0) w.sum-is
           ∙ more_without c.loop-j.j row d start (get_or c.loop-j.sum b 0) (let n = w.if-row-j-eq1.false in omega arith) (c.loop-j.invariant b h)

@@ -6,12 +6,12 @@ use Rattle.codes.proofs.Words.{applied_data}
 use Rattle.erasure.proofs.Parity.{row_part}
 use Rattle.erasure.proofs.combine.apply_rows.Goals as goal
 
-pub slice-bounds-combine-end : goal.slice-bounds-combine-end
-slice-bounds-combine-end c =
+pub slice_bounds-combine-end : goal.slice_bounds-combine-end
+slice_bounds-combine-end c =
     share_end c.loop-i.i c.args.n c.args.k (length c.args.rows.now) c.loop-i-test.true c.requires.0
 
-pub slice-bounds-combine-end-in-loop-i : goal.slice-bounds-combine-end-in-loop-i
-slice-bounds-combine-end-in-loop-i c =
+pub slice_bounds-combine-end-in-loop-i : goal.slice_bounds-combine-end-in-loop-i
+slice_bounds-combine-end-in-loop-i c =
     share_end c.loop-i.i c.args.n c.args.s (length c.loop-i.out) c.loop-i-test.true (c.loop-i.auto.out ∙ c.requires.1.1)
 
 pub overflow_add-i-in-loop-i : goal.overflow_add-i-in-loop-i

@@ -18,7 +18,7 @@ loop-x-preserved c =
 pub loop-done-init : goal.loop-done-init
 loop-done-init c = λ b h.
     c.loop-x.invariant b (omega arith)
-    ∙ bit_none (length c.args.row.now) (at c.args.row.now) (λ j. byte_of c.args.size j (c.args.from + b) c.args.shares.now) (λ j. (c.type-inv.row j).fits)
+    ∙ bit_none (length c.args.row.now) (at c.args.row.now) (λ j. byte_of c.args.size j (c.args.from + b) c.args.shares.now) (λ j. (c.type_inv.row j).fits)
 
 -- one bit more: the sum doubled, and the terms of that bit
 turn : (k n done : ℕ) (row d : ℕ → ℕ) (xs ys : List ℕ) (b y : ℕ) → ((j : ℕ) → row j < 256) → n + 1 ≡ 8 - done → ys ≡ doubled xs → b < length xs
@@ -38,7 +38,7 @@ pub loop-done-preserved : goal.loop-done-preserved
 loop-done-preserved c = λ b h.
     turn (length c.args.row.now) (7 - c.loop-done.done) c.loop-done.done (at c.args.row.now) (λ j. byte_of c.args.size j (c.args.from + b) c.args.shares.now)
     c.loop-done.sum c.double_share.new.share b (get_or c.add_selected.new.sum b 0)
-    (λ j. (c.type-inv.row j).fits) (omega arith) c.double_share.ensures (omega arith) (c.loop-done.invariant b h) (c.add_selected.ensures b (omega arith))
+    (λ j. (c.type_inv.row j).fits) (omega arith) c.double_share.ensures (omega arith) (c.loop-done.invariant b h) (c.add_selected.ensures b (omega arith))
 
 pub returns : goal.returns
 returns c = λ b h.

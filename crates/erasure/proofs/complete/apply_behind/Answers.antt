@@ -37,13 +37,13 @@ combine-requires c =
     let inside : m % w * s + s ≤ w * s = share_inside (m % w) w s (mod_below m w c.requires.small.1.0) in
     (front_long (k * (w * s)) word (omega arith) ∙ ap (λ (n : ℕ). n * (w * s)) (sym row), omega arith)
 
-pub slice-bounds-combine-end : goal.slice-bounds-combine-end
-slice-bounds-combine-end c =
+pub slice_bounds-combine-end : goal.slice_bounds-combine-end
+slice_bounds-combine-end c =
     share_end (c.loop-m.m / c.args.w) (2 * c.args.k) c.args.k (length c.args.rows.now)
     (div_below c.loop-m.m c.args.w (2 * c.args.k) c.requires.small.1.0 c.loop-m-test.true) c.requires.long.0
 
-pub slice-bounds-copy_from_slice-end : goal.slice-bounds-copy_from_slice-end
-slice-bounds-copy_from_slice-end c =
+pub slice_bounds-copy_from_slice-end : goal.slice_bounds-copy_from_slice-end
+slice_bounds-copy_from_slice-end c =
     share_end c.loop-m.m (2 * c.args.k * c.args.w) c.args.s (length c.loop-m.word) c.loop-m-test.true (c.loop-m.invariant.0 ∙ c.requires.long.1.0)
 
 pub loop-m-preserved : goal.loop-m-preserved
@@ -81,8 +81,8 @@ loop-m-preserved c =
           (le-ltb m (k * w) c.loop-m.auto.m))),
     )
 
-pub shape-of-word : goal.shape-of-word
-shape-of-word c = c.loop-m.invariant.0
+pub invariant_of-word : goal.invariant_of-word
+invariant_of-word c = c.loop-m.invariant.0
 
 pub returns : goal.returns
 returns c = λ m hm b hb. c.loop-m.invariant.1 m (omega arith) b hb

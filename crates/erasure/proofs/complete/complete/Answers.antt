@@ -6,8 +6,8 @@ use Rattle.erasure.proofs.Recovers.{places_long}
 use Rattle.erasure.proofs.Parity.{complete_parts}
 use Rattle.erasure.proofs.complete.complete.Goals as goal
 
-pub slice-bounds-space-end : goal.slice-bounds-space-end
-slice-bounds-space-end g c =
+pub slice_bounds-space-end : goal.slice_bounds-space-end
+slice_bounds-space-end g c =
     width_most c.args.k (complete_parts c.args.k c.args.w c.args.s (length c.args.word.now) (sym c.if-not-complete_fits.ensures)).wide
 
 pub count_places-requires : goal.count_places-requires

@@ -17,8 +17,8 @@ overflow_mul-rows-2 g c =
     let r : 2 * k * k ≤ 2048 = room k (width_most k c.requires.first.0) in
     record { fits = omega arith }
 
-pub slice-bounds-table-end : goal.slice-bounds-table-end
-slice-bounds-table-end g c = room (length c.args.places.now) (width_most (length c.args.places.now) c.requires.first.0)
+pub slice_bounds-table-end : goal.slice_bounds-table-end
+slice_bounds-table-end g c = room (length c.args.places.now) (width_most (length c.args.places.now) c.requires.first.0)
 
 space_long : (n : ℕ) → n ≤ 512 → length (take (n - 0) (drop 0 (replicate {A = ℕ} 512 0))) ≡ n
 space_long n h = simp (length-take, length-drop) (omega arith)
@@ -47,7 +47,7 @@ returns g c =
     let old : List ℕ = take (2 * k * k - 0) (drop 0 (replicate {A = ℕ} 2048 0)) in
     let rises : rising_below (2 * k) ps ≡ true = first_rises k ps refl c.requires.first.1 in
     completed g.C.Code.table g.met.C.Code.first k (w * s) (omega arith) (λ i j. byte_of k i j rows) c.args.word.now c.apply_behind.new.word
-    (c.apply_behind.auto.word ∙ c.requires.cells.1.1.1) (λ n. (c.type-inv.word n).fits)
+    (c.apply_behind.auto.word ∙ c.requires.cells.1.1.1) (λ n. (c.type_inv.word n).fits)
     (λ i hi d.
     applied_row k (λ j. byte_of k i j rows) (W k (at ps) i) d
     (λ j hj. ap (byte_of k i j) c.weights.ensures

@@ -6,8 +6,8 @@ use Rattle.codes.specs.Words.{at}
 use Rattle.erasure.specs.Weights.{numerator, weight_by}
 use Rattle.erasure.proofs.weigh.weight_rows.Goals as goal
 
-pub slice-bounds-weight_row-end : goal.slice-bounds-weight_row-end
-slice-bounds-weight_row-end c =
+pub slice_bounds-weight_row-end : goal.slice_bounds-weight_row-end
+slice_bounds-weight_row-end c =
     share_end c.loop-i.i (2 * length c.args.places.now) (length c.args.places.now) (length c.loop-i.rows) c.loop-i-test.true
     (c.loop-i.auto.rows ∙ c.requires.1.1.1.1)
 

@@ -39,5 +39,5 @@ returns g c =
       columns = λ _. is ∙ extension_by_columns_lem T k s xs;
       lines = λ _. subst (LinesCoded T k s) (sym is) (extension_lines T g.met.C.Code.first k s m xs);
       through = λ _. subst (LinesFromAny T k s) (sym is) (extension_through T g.met.C.Code.first g.met.C.Code.second k s m xs);
-      front = λ _. ap (quadrant k s) is ∙ extension_quadrant T g.met.C.Code.first k s m xs f.from (λ n. (c.type-inv.shares n).fits);
+      front = λ _. ap (quadrant k s) is ∙ extension_quadrant T g.met.C.Code.first k s m xs f.from (λ n. (c.type_inv.shares n).fits);
     }

@@ -14,8 +14,8 @@ overflow_add-r g c =
     share_end c.loop-r.r c.args.k (c.args.k * c.args.s) (length c.args.shares.now) c.loop-r-test.true c.requires.1.1.0 in
     record { fits = omega arith }
 
-pub slice-bounds-encode-end : goal.slice-bounds-encode-end
-slice-bounds-encode-end g c =
+pub slice_bounds-encode-end : goal.slice_bounds-encode-end
+slice_bounds-encode-end g c =
     share_end c.loop-r.r c.args.k (c.args.k * c.args.s) (length c.args.shares.now) c.loop-r-test.true c.requires.1.1.0
 
 pub overflow_add-r-in-loop-r : goal.overflow_add-r-in-loop-r
@@ -24,8 +24,8 @@ overflow_add-r-in-loop-r g c =
     share_end c.loop-r.r (2 * c.args.k) (2 * c.args.k * c.args.s) (length c.loop-r.square) (omega arith) (c.loop-r.auto.square ∙ c.requires.1.1.1) in
     record { fits = omega arith }
 
-pub slice-bounds-encode-end-in-loop-r : goal.slice-bounds-encode-end-in-loop-r
-slice-bounds-encode-end-in-loop-r g c =
+pub slice_bounds-encode-end-in-loop-r : goal.slice_bounds-encode-end-in-loop-r
+slice_bounds-encode-end-in-loop-r g c =
     share_end c.loop-r.r (2 * c.args.k) (2 * c.args.k * c.args.s) (length c.loop-r.square) (omega arith) (c.loop-r.auto.square ∙ c.requires.1.1.1)
 
 pub loop-r-preserved : goal.loop-r-preserved

@@ -10,15 +10,15 @@ use Rattle.extraction.specs.Extracted.{data_path}
 use Rattle.extraction.proofs.Comparing.{line_low}
 use Rattle.extraction.proofs.at_claim.collide_at_claim.Goals as goal
 
-pub slice-bounds-tree-end : goal.slice-bounds-tree-end
-slice-bounds-tree-end g c =
+pub slice_bounds-tree-end : goal.slice_bounds-tree-end
+slice_bounds-tree-end g c =
     let h = c.args.h.now in
     let m = measured (fields_of h) c.lengths-n.result h.width h.size c.lengths-n.ensures in
     let l : c.lengths-n.result.data_tree ≤ 8160 = omega arith in
     l
 
-pub slice-bounds-own-end : goal.slice-bounds-own-end
-slice-bounds-own-end g c =
+pub slice_bounds-own-end : goal.slice_bounds-own-end
+slice_bounds-own-end g c =
     let h = c.args.h.now in
     let l : c.lengths-n.result.data_path ≤ 224 = omega (arith, ap (λ l. l.data_path) c.lengths-n.ensures, depth_most h.k) in
     l

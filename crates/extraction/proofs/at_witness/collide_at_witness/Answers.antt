@@ -8,8 +8,8 @@ use Rattle.fraud.proofs.Words.{space_long}
 use Rattle.extraction.proofs.Searches.{finds_at}
 use Rattle.extraction.proofs.at_witness.collide_at_witness.Goals as goal
 
-pub slice-bounds-own-end : goal.slice-bounds-own-end
-slice-bounds-own-end g c =
+pub slice_bounds-own-end : goal.slice_bounds-own-end
+slice_bounds-own-end g c =
     let h = c.args.h.now in
     let m = measured (fields_of h) c.lengths-len.result h.width h.size c.lengths-len.ensures in
     let l : c.lengths-len.result.path ≤ 416 = omega arith in

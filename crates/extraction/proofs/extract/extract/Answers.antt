@@ -29,8 +29,8 @@ returns-then-not-lengths_fit g c =
       gives = λ given accepted fits. absurd (both_ways _ (sym e) fits);
     }
 
-pub slice-bounds-roots-end : goal.slice-bounds-roots-end
-slice-bounds-roots-end g c =
+pub slice_bounds-roots-end : goal.slice_bounds-roots-end
+slice_bounds-roots-end g c =
     let h = c.args.h.now in
     let m = measured (fields_of h) c.lengths-len.result h.width h.size c.lengths-len.ensures in
     let l : c.lengths-len.result.roots ≤ 4096 = omega arith in

@@ -27,6 +27,6 @@ returns g c =
     record {
       square = filled;
       roots = roots;
-      stands = (stand f g.met.H.Hash.sized x h.width T g.met.C.Code.first g.met.C.Code.second d (λ n. omega (arith, c.type-inv.shares n)) h.size c.requires.0).0;
+      stands = (stand f g.met.H.Hash.sized x h.width T g.met.C.Code.first g.met.C.Code.second d (λ n. omega (arith, c.type_inv.shares n)) h.size c.requires.0).0;
       answer = c.is_header_of.ensures ∙ ap (λ r. bytes_eq (data_root_of f x r) h.data_root) roots;
     }

@@ -27,8 +27,8 @@ overflow_add-result c =
     share_end n (w * w) c.args.h.now.s _ (cell_below w w c.args.cell.row c.args.cell.col c.requires.1.0 c.requires.1.1) c.requires.0 in
     search rules
 
-pub slice-bounds-result-end : goal.slice-bounds-result-end
-slice-bounds-result-end c =
+pub slice_bounds-result-end : goal.slice_bounds-result-end
+slice_bounds-result-end c =
     let w = 2 * c.args.h.now.k in
     let n = c.args.cell.row * w + c.args.cell.col in
     share_end n (w * w) c.args.h.now.s _ (cell_below w w c.args.cell.row c.args.cell.col c.requires.1.0 c.requires.1.1) c.requires.0

@@ -1,5 +1,5 @@
 use Rattle.erasure.proofs.Bounds.{width_most}
 use Rattle.fraud.proofs.case.check_case.Goals as goal
 
-pub slice-bounds-places-end : goal.slice-bounds-places-end
-slice-bounds-places-end g c = width_most c.args.h.now.k c.args.h.now.width
+pub slice_bounds-places-end : goal.slice_bounds-places-end
+slice_bounds-places-end g c = width_most c.args.h.now.k c.args.h.now.width

@@ -7,18 +7,18 @@ use Rattle.header.proofs.Measures.{measured}
 use Rattle.fraud.proofs.Words.{space_long}
 use Rattle.fraud.proofs.word.has_root.Goals as goal
 
-pub slice-bounds-table-end : goal.slice-bounds-table-end
-slice-bounds-table-end g c =
+pub slice_bounds-table-end : goal.slice_bounds-table-end
+slice_bounds-table-end g c =
     let h = c.args.h.now in
     subst (λ n. n * h.k ≤ 2048) (sym (ap (λ l. l.width) c.lengths-n.ensures)) (room h.k (width_most h.k h.width))
 
-pub slice-bounds-cell-end : goal.slice-bounds-cell-end
-slice-bounds-cell-end g c =
+pub slice_bounds-cell-end : goal.slice_bounds-cell-end
+slice_bounds-cell-end g c =
     let h = c.args.h.now in
     (measured (fields_of h) c.lengths-n.result h.width h.size c.lengths-n.ensures).sized
 
-pub slice-bounds-space-end : goal.slice-bounds-space-end
-slice-bounds-space-end g c =
+pub slice_bounds-space-end : goal.slice_bounds-space-end
+slice_bounds-space-end g c =
     let h = c.args.h.now in
     let m = measured (fields_of h) c.lengths-n.result h.width h.size c.lengths-n.ensures in
     let r : c.lengths-n.result.axis_tree ≤ 4064 = omega arith in

@@ -8,8 +8,8 @@ use Rattle.erasure.specs.Rows.{row_sum}
 use Rattle.layout.proofs.Entries.{entries_more}
 use Rattle.fraud.proofs.word.put_cells.Goals as goal
 
-pub slice-bounds-put_cell-end : goal.slice-bounds-put_cell-end
-slice-bounds-put_cell-end g c = share_end c.loop-i.i (2 * c.args.k) c.args.k _ c.loop-i-test.true c.requires.table.1.1.0
+pub slice_bounds-put_cell-end : goal.slice_bounds-put_cell-end
+slice_bounds-put_cell-end g c = share_end c.loop-i.i (2 * c.args.k) c.args.k _ c.loop-i-test.true c.requires.table.1.1.0
 
 pub loop-i-preserved : goal.loop-i-preserved
 loop-i-preserved g c =

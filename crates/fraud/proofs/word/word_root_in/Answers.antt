@@ -62,5 +62,5 @@ returns g c =
           ∙ ap (λ s. root (join_of plain_rule f) (depth x) (λ j. leaf_of plain_rule f (row_sum (share h.k j (weight_table W h.k ps)) (witness_len x) 9 s ws))) c.requires.room.1.0
           ∙ root_is x ws long h.width f W ps;
       through = word_through g.C.Code.table W g.met.C.Code.weighs h.k h.s (omega arith) ps (shares_of (witnesses_in x ws))
-          (rising_places h.k ps c.requires.places.0 c.requires.places.1.0) (all_shares_long x ws long) (all_shares_small x ws long (λ i. (c.type-inv.records i).fits));
+          (rising_places h.k ps c.requires.places.0 c.requires.places.1.0) (all_shares_long x ws long) (all_shares_small x ws long (λ i. (c.type_inv.records i).fits));
     }

@@ -7,12 +7,12 @@ pub overflow_mul-result : goal.overflow_mul-result
 overflow_mul-result c =
     let l : c.args.i * c.args.size + c.args.size ≤ length c.args.records.now = record_inside _ _ _ c.requires.1 in search rules
 
-pub slice-bounds-result-count : goal.slice-bounds-result-count
-slice-bounds-result-count c =
+pub slice_bounds-result-count : goal.slice_bounds-result-count
+slice_bounds-result-count c =
     let l : c.args.i * c.args.size + c.args.size ≤ length c.args.records.now = record_inside _ _ _ c.requires.1 in omega arith
 
-pub slice-bounds-result-start : goal.slice-bounds-result-start
-slice-bounds-result-start c =
+pub slice_bounds-result-start : goal.slice_bounds-result-start
+slice_bounds-result-start c =
     let l : c.args.i * c.args.size + c.args.size ≤ length c.args.records.now = record_inside _ _ _ c.requires.1 in search rules
 
 pub returns : goal.returns

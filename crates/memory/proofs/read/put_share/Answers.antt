@@ -52,8 +52,8 @@ overflow_add-at-2 c =
     let s = spot n.width n.share c.args.cell.row c.args.cell.col (omega arith) (omega arith) m.wide m.sized in
     omega arith
 
-pub slice-bounds-copy_from_slice-end : goal.slice-bounds-copy_from_slice-end
-slice-bounds-copy_from_slice-end c =
+pub slice_bounds-copy_from_slice-end : goal.slice_bounds-copy_from_slice-end
+slice_bounds-copy_from_slice-end c =
     let h = c.args.h.now in
     let n = c.lengths-n.result in
     let m = measured (fields_of h) n h.width h.size c.lengths-n.ensures in

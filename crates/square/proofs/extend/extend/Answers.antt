@@ -19,7 +19,7 @@ returns-in-err-h g c = record {
   roots = search rules;
   stands = λ w z l.
       let b = blank c.args.k c.args.s g.H.Hash.kind g.C.Code.kind in
-      stand g.H.Hash.meaning g.met.H.Hash.sized b w g.C.Code.table g.met.C.Code.first g.met.C.Code.second c.args.shares.now (λ n. omega (arith, c.type-inv.shares n)) z l;
+      stand g.H.Hash.meaning g.met.H.Hash.sized b w g.C.Code.table g.met.C.Code.first g.met.C.Code.second c.args.shares.now (λ n. omega (arith, c.type_inv.shares n)) z l;
 }
 
 pub returns-then-not-lengths_fit : goal.returns-then-not-lengths_fit
@@ -29,7 +29,7 @@ returns-then-not-lengths_fit g c = record {
   roots = search rules;
   stands = λ w z l.
       let b = blank c.args.k c.args.s g.H.Hash.kind g.C.Code.kind in
-      stand g.H.Hash.meaning g.met.H.Hash.sized b w g.C.Code.table g.met.C.Code.first g.met.C.Code.second c.args.shares.now (λ n. omega (arith, c.type-inv.shares n)) z l;
+      stand g.H.Hash.meaning g.met.H.Hash.sized b w g.C.Code.table g.met.C.Code.first g.met.C.Code.second c.args.shares.now (λ n. omega (arith, c.type_inv.shares n)) z l;
 }
 
 pub returns : goal.returns
@@ -56,5 +56,5 @@ returns g c =
           ∙ ap (λ x. written (commit_outcome f b x m) (roots_of f b x) c.args.roots.now) sq-is
           ∙ ap (λ o. written o (roots_of f b ext) c.args.roots.now) C
           ∙ sym (ap (λ o. written o (roots_of f b ext) c.args.roots.now) E);
-      stands = λ w z l. stand f g.met.H.Hash.sized b w T g.met.C.Code.first g.met.C.Code.second d (λ n. omega (arith, c.type-inv.shares n)) z l;
+      stands = λ w z l. stand f g.met.H.Hash.sized b w T g.met.C.Code.first g.met.C.Code.second d (λ n. omega (arith, c.type_inv.shares n)) z l;
     }

@@ -53,5 +53,5 @@ returns c =
       value = w;
       place = search rules;
       shorter = simp (length-take, length-drop) (omega (arith, ltb-false));
-      back = read_is_written (fields_of c.args.h.now) c.args.due bs x after (All-from_get_or (λ b. b < 256) bs 0 (λ i h. omega (arith, c.type-inv.bytes i))) (sym w);
+      back = read_is_written (fields_of c.args.h.now) c.args.due bs x after (All-from_get_or (λ b. b < 256) bs 0 (λ i h. omega (arith, c.type_inv.bytes i))) (sym w);
     }

@@ -3,8 +3,8 @@ use Rattle.header.specs.Fields.{fields_of}
 use Rattle.blockfile.proofs.Walks.{empty_standing}
 use Rattle.blockfile.proofs.file.BlockFile.empty.Goals as goal
 
-pub invariant-of-result : goal.invariant-of-result
-invariant-of-result c = ((empty_standing (fields_of c.no_block.result) [] c.empty.result c.empty.ensures.places c.empty.ensures.axes).within, tt)
+pub invariant_of-result : goal.invariant_of-result
+invariant_of-result c = ((empty_standing (fields_of c.no_block.result) [] c.empty.result c.empty.ensures.places c.empty.ensures.axes).within, tt)
 
 pub returns : goal.returns
 returns c = record { head = c.no_block.ensures; roots_are = refl; cells = (empty_standing (fields_of c.no_block.result) [] c.empty.result c.empty.ensures.places c.empty.ensures.axes).kept }

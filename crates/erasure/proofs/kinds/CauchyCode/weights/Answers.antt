@@ -9,8 +9,8 @@ use Rattle.erasure.proofs.kinds.CauchyCode.weights.Goals as goal
 part_long : (n : ℕ) → n ≤ 64 → length (take (n - 0) (drop 0 (replicate {A = ℕ} 64 0))) ≡ n
 part_long n h = simp (length-take, length-drop) (omega arith)
 
-pub slice-bounds-space-end : goal.slice-bounds-space-end
-slice-bounds-space-end c =
+pub slice_bounds-space-end : goal.slice_bounds-space-end
+slice_bounds-space-end c =
     let w : Weighable c.args.places.now (length c.args.rows.now) =
     weighable_parts c.args.places.now (length c.args.rows.now) (sym c.if-are_weighable.ensures) in
     let l : length c.args.places.now < 33 = w.narrow in

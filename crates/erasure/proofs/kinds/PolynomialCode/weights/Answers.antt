@@ -14,8 +14,8 @@ ones_long n h = simp (length-take, length-drop) (omega arith)
 one_at : (n i : ℕ) → n ≤ 64 → i < n → ◌≡◌ {A = ℕ} (get_or (take (n - 0) (drop 0 (replicate {A = ℕ} 64 1))) i 0) 1
 one_at n i h l = get_or-take (n - 0) (replicate {A = ℕ} 64 1) i 0 (omega arith) ∙ get_or-replicate {A = ℕ} 64 i 1 0 (omega arith)
 
-pub slice-bounds-fill_weights-end : goal.slice-bounds-fill_weights-end
-slice-bounds-fill_weights-end c =
+pub slice_bounds-fill_weights-end : goal.slice_bounds-fill_weights-end
+slice_bounds-fill_weights-end c =
     let w : Weighable c.args.places.now (length c.args.rows.now) =
     weighable_parts c.args.places.now (length c.args.rows.now) (sym c.if-are_weighable.ensures) in
     let l : length c.args.places.now < 33 = w.narrow in
