@@ -15,7 +15,7 @@ returns-in-Err c = sym (c.in-Err.ensures.value ∙ ap (λ f. reads_at f due.Head
 pub unreachable-requires : goal.unreachable-requires
 unreachable-requires c =
     let d = header_due (fields_of c.no_block.result) 0 c.args.bytes.now _ _ (sym c.in-Ok.ensures.value) in
-    not_header c.in-Ok.read.0 d.0 d.1 c.in-default.not-Header
+    not_header c.in-Ok.read.0 d.0 d.1 c.in_default.not-Header
 
 pub unreachable-requires-in-Err-make_header : goal.unreachable-requires-in-Err-make_header
 unreachable-requires-in-Err-make_header c =

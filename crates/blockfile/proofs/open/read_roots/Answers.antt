@@ -11,7 +11,7 @@ pub unreachable-requires : goal.unreachable-requires
 unreachable-requires c =
     let p = c.in-Ok.ensures.value ∙ ap (reads_at (fields_of c.args.h.now) due.Roots 44) (take_rest c.args.bytes.now 44) in
     let d = roots_due (fields_of c.args.h.now) 44 _ _ _ (sym p) in
-    not_roots c.in-Ok.read.0 d.0 d.1 c.in-default.not-Roots
+    not_roots c.in-Ok.read.0 d.0 d.1 c.in_default.not-Roots
 
 pub returns-in-Err : goal.returns-in-Err
 returns-in-Err c = sym (c.in-Err.ensures.value ∙ ap (reads_at (fields_of c.args.h.now) due.Roots 44) (take_rest c.args.bytes.now 44))

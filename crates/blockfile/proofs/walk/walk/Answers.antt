@@ -20,8 +20,8 @@ returns-in-Err c =
     let p = c.in-Err.ensures.value ∙ ap (λ d. reads_at h d c.loop-at.at rest) c.due_at.ensures in
     refused_walk h bs c.args.start _ _ (faulty h bs c.args.h.now.width c.args.start c.loop-at.point c.loop-at.index c.loop-at.at c.loop-at.invariant rest rest_is some _ p)
 
-pub returns-in-err-point : goal.returns-in-err-point
-returns-in-err-point c =
+pub returns-in_err-point : goal.returns-in_err-point
+returns-in_err-point c =
     let q = err_from_is_err_and c.from-residual.result c.from-residual.ensures.1 in
     let h = fields_of c.args.h.now in
     let bs : List ℕ = c.args.bytes.now in
@@ -29,7 +29,7 @@ returns-in-err-point c =
     let rest_is = take_rest bs c.loop-at.at in
     let some : 0 < length rest = omega (arith, ap length rest_is, length-drop c.loop-at.at bs) in
     let p = c.in-Ok.ensures.value ∙ ap (λ d. reads_at h d c.loop-at.at rest) c.due_at.ensures in
-    rw (q.1, q.2) (refused_walk h bs c.args.start _ _ (refuses h bs c.args.h.now.width c.args.start c.loop-at.point c.loop-at.index c.loop-at.at c.loop-at.invariant rest rest_is some _ _ p _ c.in-err-point.ensures.answer))
+    rw (q.1, q.2) (refused_walk h bs c.args.start _ _ (refuses h bs c.args.h.now.width c.args.start c.loop-at.point c.loop-at.index c.loop-at.at c.loop-at.invariant rest rest_is some _ _ p _ c.in_err-point.ensures.answer))
 
 pub loop-at-preserved : goal.loop-at-preserved
 loop-at-preserved c =
@@ -39,7 +39,7 @@ loop-at-preserved c =
     let rest_is = take_rest bs c.loop-at.at in
     let some : 0 < length rest = omega (arith, ap length rest_is, length-drop c.loop-at.at bs) in
     let p = c.in-Ok.ensures.value ∙ ap (λ d. reads_at h d c.loop-at.at rest) c.due_at.ensures in
-    goes_on h bs c.args.h.now.width c.args.start c.loop-at.point c.loop-at.index c.loop-at.at c.loop-at.invariant rest rest_is some _ _ p _ c.in-ok-point.ensures.answer _ refl
+    goes_on h bs c.args.h.now.width c.args.start c.loop-at.point c.loop-at.index c.loop-at.at c.loop-at.invariant rest rest_is some _ _ p _ c.in_ok-point.ensures.answer _ refl
 
 pub returns : goal.returns
 returns c =

@@ -3,7 +3,7 @@ use Rattle.std.proofs.lemmas.List.{at_drop_all}
 use Rattle.cache.specs.Keeping.{kept_for, places}
 use Rattle.cache.proofs.Keepers.{kept_none, kept_hit, kept_other}
 use Rattle.cache.proofs.keeping.find.Goals as goal
-use Rattle.cache.proofs.keeping.find.Goals.{in-Some+else-same_cell, in-default}
+use Rattle.cache.proofs.keeping.find.Goals.{in-Some+else-same_cell, in_default}
 
 pub returns-then-same_cell : goal.returns-then-same_cell
 returns-then-same_cell c k s =
@@ -18,7 +18,7 @@ loop-o-preserved c k s =
     let h = c.loop-o-test.true in
     elim c.match-o.branch [
       | in-Some+else-same_cell w ↦ kept_other a.cell.row a.cell.col k s a.slots.now i w.in-Some.v h w.in-Some.is (sym w.if-same_cell.ensures) ∙ c.loop-o.invariant k s
-      | in-default w ↦ kept_none a.cell.row a.cell.col k s a.slots.now i h w.in-default.is ∙ c.loop-o.invariant k s
+      | in_default w ↦ kept_none a.cell.row a.cell.col k s a.slots.now i h w.in_default.is ∙ c.loop-o.invariant k s
     ]
 
 pub returns : goal.returns

@@ -81,8 +81,8 @@ loop-m-preserved c =
           (le-ltb m (k * w) c.loop-m.auto.m))),
     )
 
-pub invariant_of-word : goal.invariant_of-word
-invariant_of-word c = c.loop-m.invariant.0
+pub shape_of-word : goal.shape_of-word
+shape_of-word c = c.loop-m.invariant.0
 
 pub returns : goal.returns
 returns c = λ m hm b hb. c.loop-m.invariant.1 m (omega arith) b hb

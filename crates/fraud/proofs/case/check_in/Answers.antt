@@ -35,7 +35,7 @@ returns-then-has_root g c =
     let places = c.put_places.ensures in
     let rises : rising_below (width h) (places_of p.witnesses) ≡ true = ap (rising_below (width h)) (sym places) ∙ sym c.if-not-are_rising.ensures in
     record {
-      answer = judged_last f W h p (sym c.if-not-is_committed.ensures) rises (sym c.first_unverified.ensures ∙ c.in-default.is) true
+      answer = judged_last f W h p (sym c.if-not-is_committed.ensures) rises (sym c.first_unverified.ensures ∙ c.in_default.is) true
           (ap (λ ps. bytes_eq (value_root f (depth h) h.s (word_by W h.k h.s ps (shares_of p.witnesses))) p.claim.root) (sym places) ∙ sym c.if-has_root.ensures.answer);
       decides = decides f T W g.met.C.Code.second h c.args.h.now.width p (length-map-range_with_len (witness_at h c.args.p.now.witnesses.now) 0 h.k)
           (λ r e. subst (λ ps. Through T h.k h.s ps (shares_of p.witnesses) (word_by W h.k h.s ps (shares_of p.witnesses))) places c.has_root.ensures.through);
@@ -51,7 +51,7 @@ returns g c =
     let places = c.put_places.ensures in
     let rises : rising_below (width h) (places_of p.witnesses) ≡ true = ap (rising_below (width h)) (sym places) ∙ sym c.if-not-are_rising.ensures in
     record {
-      answer = judged_last f W h p (sym c.if-not-is_committed.ensures) rises (sym c.first_unverified.ensures ∙ c.in-default.is) false
+      answer = judged_last f W h p (sym c.if-not-is_committed.ensures) rises (sym c.first_unverified.ensures ∙ c.in_default.is) false
           (ap (λ ps. bytes_eq (value_root f (depth h) h.s (word_by W h.k h.s ps (shares_of p.witnesses))) p.claim.root) (sym places) ∙ sym c.if-has_root.ensures.answer);
       decides = decides f T W g.met.C.Code.second h c.args.h.now.width p (length-map-range_with_len (witness_at h c.args.p.now.witnesses.now) 0 h.k)
           (λ r e. subst (λ ps. Through T h.k h.s ps (shares_of p.witnesses) (word_by W h.k h.s ps (shares_of p.witnesses))) places c.has_root.ensures.through);

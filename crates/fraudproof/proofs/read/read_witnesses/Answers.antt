@@ -6,11 +6,11 @@ use Rattle.fraudproof.specs.Proof.{witness_len}
 use Rattle.fraudproof.proofs.Forms.{walk_break, walk_more, walk_end, walk_over, nothing_read}
 use Rattle.fraudproof.proofs.read.read_witnesses.Goals as goal
 
-pub returns-in-err-behind : goal.returns-in-err-behind
-returns-in-err-behind c =
+pub returns-in_err-behind : goal.returns-in_err-behind
+returns-in_err-behind c =
     let p = err_from_is_err_and c.from-residual.result c.from-residual.ensures.1 in
     rw (p.1, p.2) record {
-      answer = walk_break (fields_of c.args.h.now) c.args.h.now.k c.args.start c.args.records.now c.loop-n._n c.loop-n.at c.loop-n.rest.now c.loop-n.invariant (omega arith) _ c.in-err-behind.ensures.value;
+      answer = walk_break (fields_of c.args.h.now) c.args.h.now.k c.args.start c.args.records.now c.loop-n._n c.loop-n.at c.loop-n.rest.now c.loop-n.invariant (omega arith) _ c.in_err-behind.ensures.value;
       form = tt;
     }
 
@@ -23,19 +23,19 @@ overflow_add-at c =
 
 pub loop-n-preserved : goal.loop-n-preserved
 loop-n-preserved c =
-    walk_more (fields_of c.args.h.now) c.args.h.now.k c.args.start c.args.records.now c.loop-n._n c.loop-n.at c.loop-n.rest.now c.loop-n.invariant (omega arith) _ _ c.in-ok-behind.ensures.value _ refl
+    walk_more (fields_of c.args.h.now) c.args.h.now.k c.args.start c.args.records.now c.loop-n._n c.loop-n.at c.loop-n.rest.now c.loop-n.invariant (omega arith) _ _ c.in_ok-behind.ensures.value _ refl
 
-pub returns-in-err-read_at : goal.returns-in-err-read_at
-returns-in-err-read_at c =
-    let p = err_from_is_err_and c.from-residual-in-err-read_at.result c.from-residual-in-err-read_at.ensures.1 in
+pub returns-in_err-read_at : goal.returns-in_err-read_at
+returns-in_err-read_at c =
+    let p = err_from_is_err_and c.from-residual-in_err-read_at.result c.from-residual-in_err-read_at.ensures.1 in
     rw (p.1, p.2) record {
-      answer = walk_over (fields_of c.args.h.now) c.args.h.now.k c.args.start c.args.records.now c.loop-n._n c.loop-n.at c.loop-n.rest.now c.loop-n.invariant (omega arith) (omega arith) c.if-not-is_empty.ensures _ c.in-err-read_at.ensures.value;
+      answer = walk_over (fields_of c.args.h.now) c.args.h.now.k c.args.start c.args.records.now c.loop-n._n c.loop-n.at c.loop-n.rest.now c.loop-n.invariant (omega arith) (omega arith) c.if-not-is_empty.ensures _ c.in_err-read_at.ensures.value;
       form = tt;
     }
 
-pub returns-in-ok-read_at : goal.returns-in-ok-read_at
-returns-in-ok-read_at c =
-    absurd (nothing_read (fields_of c.args.h.now) c.loop-n.at c.loop-n.rest.now _ (sym c.in-ok-read_at.ensures.value))
+pub returns-in_ok-read_at : goal.returns-in_ok-read_at
+returns-in_ok-read_at c =
+    absurd (nothing_read (fields_of c.args.h.now) c.loop-n.at c.loop-n.rest.now _ (sym c.in_ok-read_at.ensures.value))
 
 pub returns-else-not-is_empty : goal.returns-else-not-is_empty
 returns-else-not-is_empty c =

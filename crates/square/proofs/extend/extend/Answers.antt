@@ -12,8 +12,8 @@ use Rattle.square.proofs.Laws.{stand}
 use Rattle.square.proofs.Outcomes.{extend_granted, commit_granted, fill_granted}
 use Rattle.square.proofs.extend.extend.Goals as goal
 
-pub returns-in-err-h : goal.returns-in-err-h
-returns-in-err-h g c = record {
+pub returns-in_err-h : goal.returns-in_err-h
+returns-in_err-h g c = record {
   answer = search rules;
   square = search rules;
   roots = search rules;
@@ -41,7 +41,7 @@ returns g c =
     let n = length c.args.square.now in
     let m = length c.args.roots.now in
     let ext = extension T c.args.k c.args.s d in
-    let h = made (record { k = c.args.k; s = c.args.s; hash_kind = c.kind_byte.result; code_kind = c.kind_byte-2.result; data_root = replicate 32 0 }) (fields_of c.in-ok-h.h) c.in-ok-h.ensures in
+    let h = made (record { k = c.args.k; s = c.args.s; hash_kind = c.kind_byte.result; code_kind = c.kind_byte-2.result; data_root = replicate 32 0 }) (fields_of c.in_ok-h.h) c.in_ok-h.ensures in
     let fits : extend_fits b (length d) n m ≡ true = sym (c.if-not-lengths_fit.ensures ∙ ap (λ x. extend_fits x (length d) n m) h.same) in
     let sq-is : c.fill.new.square ≡ ext = c.fill.ensures.filled ∙ cond-true (fill_fits c.args.k c.args.s (length d) n) _ _ (fill_granted f b h.wide h.sized (length d) n m fits) in
     let room : square_fits b (length ext) m ≡ true =

@@ -3,12 +3,12 @@ use Rattle.header.specs.Fields.{fields_of}
 use Rattle.store.proofs.Takings.{value_some, value_none, takes_verified, takes_none}
 use Rattle.store.proofs.taking.take_evidence.Goals as goal
 
-pub returns-in-default : goal.returns-in-default
-returns-in-default g c =
+pub returns-in_default : goal.returns-in_default
+returns-in_default g c =
     record {
       taken = λ o.
           takes_none g.H.Hash.meaning (fields_of c.args.h.now) _ _ _ _ _ _ _ _ _ c.show.result (c.show.ensures.shown o)
-          (λ axis. value_none c.show.result axis c.in-default.ensures);
+          (λ axis. value_none c.show.result axis c.in_default.ensures);
       refused = c.show.ensures.refused;
     }
 

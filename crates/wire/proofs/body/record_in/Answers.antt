@@ -39,9 +39,9 @@ pub returns-in-16 : goal.returns-in-16
 unfolding record_in is_known
 returns-in-16 c = let e = c.claim_in.ensures.value in record { value = grind (arith, nat_tests); place = c.claim_in.ensures.place }
 
-pub returns-in-default : goal.returns-in-default
+pub returns-in_default : goal.returns-in_default
 unfolding record_in is_known
-returns-in-default c = let e = c.witness_in.ensures.value in record { value = grind (arith, nat_tests); place = c.witness_in.ensures.place }
+returns-in_default c = let e = c.witness_in.ensures.value in record { value = grind (arith, nat_tests); place = c.witness_in.ensures.place }
 
 pub returns-in-2 : goal.returns-in-2
 unfolding record_in

@@ -27,6 +27,6 @@ pub returns-in-16 : goal.returns-in-16
 unfolding body_for
 returns-in-16 c = grind (arith, nat_tests)
 
-pub returns-in-default : goal.returns-in-default
+pub returns-in_default : goal.returns-in_default
 unfolding body_for
-returns-in-default c = grind (arith, nat_tests)
+returns-in_default c = grind (arith, nat_tests)

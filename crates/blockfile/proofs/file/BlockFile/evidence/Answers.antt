@@ -3,8 +3,8 @@ use Rattle.header.specs.Fields.{fields_of}
 use Rattle.blockfile.proofs.Cells.{says_none, says_by, none_there, found_there}
 use Rattle.blockfile.proofs.file.BlockFile.evidence.Goals as goal
 
-pub returns-in-default : goal.returns-in-default
-returns-in-default c = says_none (fields_of c.args.self.now.header) c.args.self.now.bytes.now c.args.self.now.index c.args.cell.row c.args.cell.col c.in-default.ensures.value
+pub returns-in_default : goal.returns-in_default
+returns-in_default c = says_none (fields_of c.args.self.now.header) c.args.self.now.bytes.now c.args.self.now.index c.args.cell.row c.args.cell.col c.in_default.ensures.value
 
 pub returns-then-at-eq0 : goal.returns-then-at-eq0
 returns-then-at-eq0 c =

@@ -24,7 +24,7 @@ write_kept-requires g c =
     let a = c.args in
     let m : Meaning = g.S.Store.meaning a.self.now.below in
     let free : asked m.k m.s a.cell.row a.cell.col (length a.share.now) (length a.path.now) ≡ Ok tt =
-    sym (c.in-ok-question.ensures ∙ question_is m (g.S.Store.bounded a.self.now.below) _ _ _ _ _ _ c.half_width-k.ensures c.share_size-s.ensures) in
+    sym (c.in_ok-question.ensures ∙ question_is m (g.S.Store.bounded a.self.now.below) _ _ _ _ _ _ c.half_width-k.ensures c.share_size-s.ensures) in
     fits m _ _ _ _ free (size_most m.s (g.S.Store.bounded a.self.now.below).1)
 
 pub ask_below-brought-requires : goal.ask_below-brought-requires
@@ -32,7 +32,7 @@ ask_below-brought-requires g c =
     let a = c.args in
     let m : Meaning = g.S.Store.meaning a.self.now.below in
     let free : asked m.k m.s a.cell.row a.cell.col (length a.share.now) (length a.path.now) ≡ Ok tt =
-    sym (c.in-ok-question.ensures ∙ question_is m (g.S.Store.bounded a.self.now.below) _ _ _ _ _ _ c.half_width-k.ensures c.share_size-s.ensures) in
+    sym (c.in_ok-question.ensures ∙ question_is m (g.S.Store.bounded a.self.now.below) _ _ _ _ _ _ c.half_width-k.ensures c.share_size-s.ensures) in
     record { room = fits m _ _ _ _ free (size_most m.s (g.S.Store.bounded a.self.now.below).1); free = free }
 
 pub write_kept-requires-2 : goal.write_kept-requires-2
@@ -40,7 +40,7 @@ write_kept-requires-2 g c =
     let a = c.args in
     let m : Meaning = g.S.Store.meaning a.self.now.below in
     let free : asked m.k m.s a.cell.row a.cell.col (length a.share.now) (length a.path.now) ≡ Ok tt =
-    sym (c.in-ok-question.ensures ∙ question_is m (g.S.Store.bounded a.self.now.below) _ _ _ _ _ _ c.half_width-k.ensures c.share_size-s.ensures) in
+    sym (c.in_ok-question.ensures ∙ question_is m (g.S.Store.bounded a.self.now.below) _ _ _ _ _ _ c.half_width-k.ensures c.share_size-s.ensures) in
     fits m _ _ _ _ free (size_most m.s (g.S.Store.bounded a.self.now.below).1)
 
 pub returns-in-Some : goal.returns-in-Some
@@ -54,7 +54,7 @@ returns-in-Some g c =
     let v = c.in-Some.v in
     let e : Evidence = (answer_in m.k m.s v).evidence in
     let free : asked m.k m.s r col (length a.share.now) (length a.path.now) ≡ Ok tt =
-    sym (c.in-ok-question.ensures ∙ question_is m (g.S.Store.bounded a.self.now.below) _ _ _ _ _ _ c.half_width-k.ensures c.share_size-s.ensures) in
+    sym (c.in_ok-question.ensures ∙ question_is m (g.S.Store.bounded a.self.now.below) _ _ _ _ _ _ c.half_width-k.ensures c.share_size-s.ensures) in
     let t = admitted m.k m.s r col _ _ free in
     let hit : kept_for r col (places m.k m.s a.self.now.kept) ≡ Some e = sym (c.in-Some.ensures m.k m.s) in
     record {
@@ -67,8 +67,8 @@ returns-in-Some g c =
       unasked = unasked_hit _ e _ hit;
     }
 
-pub returns-in-default-brought : goal.returns-in-default-brought
-returns-in-default-brought g c =
+pub returns-in_default-brought : goal.returns-in_default-brought
+returns-in_default-brought g c =
     let a = c.args in
     let f = g.H.Hash.meaning in
     let kind = g.H.Hash.kind in
@@ -79,17 +79,17 @@ returns-in-default-brought g c =
     let r = a.cell.row in
     let col = a.cell.col in
     let free : asked m.k m.s r col (length a.share.now) (length a.path.now) ≡ Ok tt =
-    sym (c.in-ok-question.ensures ∙ question_is m (g.S.Store.bounded a.self.now.below) _ _ _ _ _ _ c.half_width-k.ensures c.share_size-s.ensures) in
+    sym (c.in_ok-question.ensures ∙ question_is m (g.S.Store.bounded a.self.now.below) _ _ _ _ _ _ c.half_width-k.ensures c.share_size-s.ensures) in
     let ks : List (Option Answer) = places m.k m.s a.self.now.kept in
-    let miss : kept_for r col ks ≡ None = sym (c.in-default.ensures m.k m.s) in
+    let miss : kept_for r col ks ≡ None = sym (c.in_default.ensures m.k m.s) in
     record {
       shown = λ o.
-          let b = c.in-default-brought.ensures o.0 in
+          let b = c.in_default-brought.ensures o.0 in
           shows_this all r col a.share.now a.path.now free None (answer_none r col (all.at r col) b.is) (checked f kind h m') _ _ _ _ refl refl refl (ap (checked f kind h) b.same)
           (order_same f kind h m m' b.same a.self.now.kept _ b.kept o.1);
       refused = untouched_free _ _ _ free;
       counted = count_miss _ _ free a.self.now.count _ miss c.one_more.ensures;
-      kept = λ o. kept_on_none _ _ free r col (all.at r col) ks miss (answer_none r col (all.at r col) (c.in-default-brought.ensures o.0).is);
+      kept = λ o. kept_on_none _ _ free r col (all.at r col) ks miss (answer_none r col (all.at r col) (c.in_default-brought.ensures o.0).is);
       unasked = unasked_miss _ _ _ miss;
     }
 
@@ -105,9 +105,9 @@ returns g c =
     let r = a.cell.row in
     let col = a.cell.col in
     let free : asked m.k m.s r col (length a.share.now) (length a.path.now) ≡ Ok tt =
-    sym (c.in-ok-question.ensures ∙ question_is m (g.S.Store.bounded a.self.now.below) _ _ _ _ _ _ c.half_width-k.ensures c.share_size-s.ensures) in
+    sym (c.in_ok-question.ensures ∙ question_is m (g.S.Store.bounded a.self.now.below) _ _ _ _ _ _ c.half_width-k.ensures c.share_size-s.ensures) in
     let ks : List (Option Answer) = places m.k m.s a.self.now.kept in
-    let miss : kept_for r col ks ≡ None = sym (c.in-default.ensures m.k m.s) in
+    let miss : kept_for r col ks ≡ None = sym (c.in_default.ensures m.k m.s) in
     let v = c.in-Some-brought.v in
     let e : Evidence = (answer_in m.k m.s v).evidence in
     let t = admitted m.k m.s r col _ _ free in

@@ -12,7 +12,7 @@ copy_from_slice-requires c =
     let f = a.self.now.file.now in
     let m = file_meaning f in
     let free : asked m.k m.s a.cell.row a.cell.col (length a.share.now) (length a.path.now) ≡ Ok tt =
-    sym (c.in-ok-question.ensures ∙ question_is m (f.header.width, f.header.size) _ _ a.cell.row a.cell.col _ _ (ap (λ h. h.k) c.header-h.ensures) (ap (λ h. h.s) c.header-h.ensures)) in
+    sym (c.in_ok-question.ensures ∙ question_is m (f.header.width, f.header.size) _ _ a.cell.row a.cell.col _ _ (ap (λ h. h.k) c.header-h.ensures) (ap (λ h. h.s) c.header-h.ensures)) in
     let t = admitted m.k m.s a.cell.row a.cell.col _ _ free in
     let z = sized (fields_of f.header) f.header.width f.bytes.now f.index f.within a.cell.row a.cell.col _ (sym c.in-Some.ensures) in
     t.share ∙ sym z.share
@@ -23,7 +23,7 @@ copy_from_slice-requires-2 c =
     let f = a.self.now.file.now in
     let m = file_meaning f in
     let free : asked m.k m.s a.cell.row a.cell.col (length a.share.now) (length a.path.now) ≡ Ok tt =
-    sym (c.in-ok-question.ensures ∙ question_is m (f.header.width, f.header.size) _ _ a.cell.row a.cell.col _ _ (ap (λ h. h.k) c.header-h.ensures) (ap (λ h. h.s) c.header-h.ensures)) in
+    sym (c.in_ok-question.ensures ∙ question_is m (f.header.width, f.header.size) _ _ a.cell.row a.cell.col _ _ (ap (λ h. h.k) c.header-h.ensures) (ap (λ h. h.s) c.header-h.ensures)) in
     let t = admitted m.k m.s a.cell.row a.cell.col _ _ free in
     let z = sized (fields_of f.header) f.header.width f.bytes.now f.index f.within a.cell.row a.cell.col _ (sym c.in-Some.ensures) in
     t.path ∙ sym z.path

@@ -23,6 +23,6 @@ pub returns-in-16 : goal.returns-in-16
 unfolding depth_of
 returns-in-16 c = record { value = grind (arith, nat_tests); small = omega arith }
 
-pub returns-in-default : goal.returns-in-default
+pub returns-in_default : goal.returns-in_default
 unfolding depth_of
-returns-in-default c = record { value = grind (arith, nat_tests); small = omega arith }
+returns-in_default c = record { value = grind (arith, nat_tests); small = omega arith }

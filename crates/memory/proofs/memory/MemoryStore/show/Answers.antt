@@ -14,7 +14,7 @@ put_share-requires c =
     let me = a.self.now in
     let m : Meaning = image_meaning me.image.now me.shape.k me.shape.s in
     let free : asked m.k m.s a.cell.row a.cell.col (length a.share.now) (length a.path.now) ≡ Ok tt =
-    sym (c.in-ok-question.ensures ∙ question_is m (me.shape.width, me.shape.size) m.k m.s a.cell.row a.cell.col _ _ refl refl) in
+    sym (c.in_ok-question.ensures ∙ question_is m (me.shape.width, me.shape.size) m.k m.s a.cell.row a.cell.col _ _ refl refl) in
     let t = admitted m.k m.s a.cell.row a.cell.col _ _ free in
     record {
       cell = (t.row, t.col);
@@ -27,7 +27,7 @@ put_path-requires c =
     let me = a.self.now in
     let m : Meaning = image_meaning me.image.now me.shape.k me.shape.s in
     let free : asked m.k m.s a.cell.row a.cell.col (length a.share.now) (length a.path.now) ≡ Ok tt =
-    sym (c.in-ok-question.ensures ∙ question_is m (me.shape.width, me.shape.size) m.k m.s a.cell.row a.cell.col _ _ refl refl) in
+    sym (c.in_ok-question.ensures ∙ question_is m (me.shape.width, me.shape.size) m.k m.s a.cell.row a.cell.col _ _ refl refl) in
     let t = admitted m.k m.s a.cell.row a.cell.col _ _ free in
     record {
       cell = (t.row, t.col);
@@ -43,7 +43,7 @@ returns c =
     let r = a.cell.row in
     let col = a.cell.col in
     let free : asked m.k m.s r col (length a.share.now) (length a.path.now) ≡ Ok tt =
-    sym (c.in-ok-question.ensures ∙ question_is m (me.shape.width, me.shape.size) m.k m.s r col _ _ refl refl) in
+    sym (c.in_ok-question.ensures ∙ question_is m (me.shape.width, me.shape.size) m.k m.s r col _ _ refl refl) in
     let t = admitted m.k m.s r col _ _ free in
     let here : m.at r col ≡ Some (row_evidence (block m.k m.s) me.image.now r col) =
     cond-true _ (Some (row_evidence (block m.k m.s) me.image.now r col)) None

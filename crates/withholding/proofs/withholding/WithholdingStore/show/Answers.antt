@@ -13,13 +13,13 @@ use Rattle.withholding.proofs.withholding.WithholdingStore.show.Goals as goal
 never : false ≡ true → ⊥
 never p = let z : ◌≡◌ {A = ℕ} 0 1 = cc in omega arith
 
-pub returns-in-err-question : goal.returns-in-err-question
-returns-in-err-question g c =
+pub returns-in_err-question : goal.returns-in_err-question
+returns-in_err-question g c =
     let a = c.args in
     let m : Meaning = g.S.Store.meaning a.self.now.below in
     let p = err_from_is_err_and c.from-residual.result c.from-residual.ensures.1 in
     let q : asked m.k m.s a.cell.row a.cell.col (length a.share.now) (length a.path.now) ≡ Err (told p.0) =
-    sym (c.in-err-question.ensures ∙ question_is m (g.S.Store.bounded a.self.now.below) _ _ _ _ _ _ c.half_width-k.ensures c.share_size-s.ensures)
+    sym (c.in_err-question.ensures ∙ question_is m (g.S.Store.bounded a.self.now.below) _ _ _ _ _ _ c.half_width-k.ensures c.share_size-s.ensures)
     ∙ ap (λ e. Err (told e)) (sym p.2) in
     record {
       shown = λ o. shows_refused (masked m a.self.now.hidden) a.cell.row a.cell.col a.share.now a.path.now p.0 _ _ q p.1 o;
@@ -32,7 +32,7 @@ cell_number-requires g c =
     let a = c.args in
     let m : Meaning = g.S.Store.meaning a.self.now.below in
     let free : asked m.k m.s a.cell.row a.cell.col (length a.share.now) (length a.path.now) ≡ Ok tt =
-    sym (c.in-ok-question.ensures ∙ question_is m (g.S.Store.bounded a.self.now.below) _ _ _ _ _ _ c.half_width-k.ensures c.share_size-s.ensures) in
+    sym (c.in_ok-question.ensures ∙ question_is m (g.S.Store.bounded a.self.now.below) _ _ _ _ _ _ c.half_width-k.ensures c.share_size-s.ensures) in
     let t = admitted m.k m.s a.cell.row a.cell.col _ _ free in
     let most = width_most m.k (g.S.Store.bounded a.self.now.below).0 in
     (omega (arith, c.half_width-k.ensures), (omega (arith, c.half_width-k.ensures), omega (arith, c.half_width-k.ensures)))
@@ -42,7 +42,7 @@ returns-then-self-cell_number g c =
     let a = c.args in
     let m : Meaning = g.S.Store.meaning a.self.now.below in
     let free : asked m.k m.s a.cell.row a.cell.col (length a.share.now) (length a.path.now) ≡ Ok tt =
-    sym (c.in-ok-question.ensures ∙ question_is m (g.S.Store.bounded a.self.now.below) _ _ _ _ _ _ c.half_width-k.ensures c.share_size-s.ensures) in
+    sym (c.in_ok-question.ensures ∙ question_is m (g.S.Store.bounded a.self.now.below) _ _ _ _ _ _ c.half_width-k.ensures c.share_size-s.ensures) in
     let at : c.cell_number.result ≡ a.cell.row * (2 * m.k) + a.cell.col = c.cell_number.ensures.is ∙ ap (λ k. a.cell.row * (2 * k) + a.cell.col) c.half_width-k.ensures in
     let none : (masked m a.self.now.hidden).at a.cell.row a.cell.col ≡ None =
     cond-true _ None (m.at a.cell.row a.cell.col) (ap (λ i. get_or a.self.now.hidden i false) (sym at) ∙ c.if-self-cell_number.true) in
@@ -57,7 +57,7 @@ returns g c =
     let a = c.args in
     let m : Meaning = g.S.Store.meaning a.self.now.below in
     let free : asked m.k m.s a.cell.row a.cell.col (length a.share.now) (length a.path.now) ≡ Ok tt =
-    sym (c.in-ok-question.ensures ∙ question_is m (g.S.Store.bounded a.self.now.below) _ _ _ _ _ _ c.half_width-k.ensures c.share_size-s.ensures) in
+    sym (c.in_ok-question.ensures ∙ question_is m (g.S.Store.bounded a.self.now.below) _ _ _ _ _ _ c.half_width-k.ensures c.share_size-s.ensures) in
     let at : c.cell_number.result ≡ a.cell.row * (2 * m.k) + a.cell.col = c.cell_number.ensures.is ∙ ap (λ k. a.cell.row * (2 * k) + a.cell.col) c.half_width-k.ensures in
     let same : (masked m a.self.now.hidden).at a.cell.row a.cell.col ≡ m.at a.cell.row a.cell.col =
     cond-false _ None (m.at a.cell.row a.cell.col) (ap (λ i. get_or a.self.now.hidden i false) (sym at) ∙ c.if-self-cell_number.false) in
