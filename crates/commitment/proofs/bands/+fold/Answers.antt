@@ -20,25 +20,14 @@ overflow_add-i g t c = record { fits = omega (arith, range_row c.args.i c.args.l
 pub fold-requires : goal.fold-requires
 fold-requires g t c κs within =
     let h = halves c.args.i c.args.level (omega arith) in
-    let r = rows_below c.args.width c.args.level (omega arith) in (
+    let r = rows_below c.args.width c.args.level (omega arith) in
+    let s = c.requires.shape in (
       omega arith,
       (
         within,
         (
-          c.requires.shape.0,
-          (
-            c.requires.shape.1.0,
-            (
-              c.requires.shape.1.1.0,
-              (
-                c.requires.shape.1.1.1.0,
-                (
-                  omega (arith, h.middle),
-                  (c.requires.room.0, (omega arith, (c.requires.room.1.1, λ n l. c.requires.done n (omega (arith, h.begins))))),
-                ),
-              ),
-            ),
-          ),
+          (s.0, (s.1.0, (s.1.1.0, (s.1.1.1.0, omega (arith, h.middle))))),
+          ((c.requires.room.0, (omega arith, c.requires.room.1.1)), λ n l. c.requires.done n (omega (arith, h.begins))),
         ),
       ),
     )
@@ -46,25 +35,14 @@ fold-requires g t c κs within =
 pub fold-requires-else-level-eq0 : goal.fold-requires-else-level-eq0
 fold-requires-else-level-eq0 g t c κs within =
     let h = halves c.args.i c.args.level (omega arith) in
-    let r = rows_below c.args.width c.args.level (omega arith) in (
+    let r = rows_below c.args.width c.args.level (omega arith) in
+    let s = c.requires.shape in (
       omega arith,
       (
         within,
         (
-          c.requires.shape.0,
-          (
-            c.requires.shape.1.0,
-            (
-              c.requires.shape.1.1.0,
-              (
-                c.requires.shape.1.1.1.0,
-                (
-                  omega (arith, h.ends),
-                  (c.requires.room.0, (omega arith, (omega arith, c.fold.ensures.rows))),
-                ),
-              ),
-            ),
-          ),
+          (s.0, (s.1.0, (s.1.1.0, (s.1.1.1.0, omega (arith, h.ends))))),
+          ((c.requires.room.0, (omega arith, omega arith)), c.fold.ensures.rows),
         ),
       ),
     )
