@@ -83,13 +83,13 @@ header_read bs x rest g p is =
     let b : List ℕ = take (body_len bs) (drop head_len bs) in
     let long : length b ≡ header_body = length-take-le (body_len bs) (drop head_len bs) c.held ∙ c.body ∙ f in
     let says : record_in no_block 1 b ≡ header g = ap (λ m. record_in no_block m b) (sym k) ∙ c.says ∙ is in
-    let root_is : drop 6 b ≡ g.dataRoot = ap first_of says in
-    let root_long : length g.dataRoot ≡ digest_len = ap length (sym root_is) ∙ length-drop 6 b ∙ omega arith in
+    let root_is : drop 6 b ≡ g.data_root = ap first_of says in
+    let root_long : length g.data_root ≡ digest_len = ap length (sym root_is) ∙ length-drop 6 b ∙ omega arith in
     let r = ranges g (ap (in_range no_block) (sym is) ∙ c.range) in
     let rest_is : rest ≡ drop roots_place bs = q.0 ∙ ap (λ m. drop (head_len + m) bs) f in
     record {
       is = record { reads = p ∙ ap (λ y. Ok (y, rest)) is ∙ ap (λ y. Ok (header g, y)) rest_is; long = omega (arith, q.1, f) };
-      makes = makes_if (ok_width g.k) (ok_size g.s) (eqb (length g.dataRoot) digest_len) g r.0 r.1 (ap (λ n. eqb n digest_len) root_long);
+      makes = makes_if (ok_width g.k) (ok_size g.s) (eqb (length g.data_root) digest_len) g r.0 r.1 (ap (λ n. eqb n digest_len) root_long);
     }
 
 pub roots_read : (h : Fields) (bs : List ℕ) (x : Rec) (rest rs : List ℕ) → roots_place ≤ length bs → reads_at h due.Roots roots_place (drop roots_place bs) ≡ Ok (x, rest) → x ≡ roots rs → RootsAre h bs rs

@@ -112,7 +112,7 @@ step h (suc n) at bs l = let e : suc n - 1 ≡ n = omega arith in rw e refl
 
 module _ (h : Fields) (k start : ℕ) (ws : List ℕ) (i at : ℕ) (rest : List ℕ) (w : Walked h k start ws i at rest) (more : i < k) where
   here : witness_at h ws i ≡ witness_of h rest
-  here = ap (witness_of h) (sym w.rest-is)
+  here = ap (witness_of h) (sym w.rest_is)
 
   turned : witnesses_from h k start ws ≡ prepend (map (witness_at h ws) (range_with_len 0 i)) (go_on (witnesses_from h (k - i - 1)) at (length rest) (reads_at h due.Witness at rest))
   turned = w.whole ∙ ap (prepend (map (witness_at h ws) (range_with_len 0 i))) (step h (k - i) at rest (omega arith))
@@ -125,9 +125,9 @@ module _ (h : Fields) (k start : ℕ) (ws : List ℕ) (i at : ℕ) (rest : List 
   walk_more x behind p next next-is =
       let r = witness_read h at rest x behind (sym p) in
       let size : (i + 1) * witness_len h ≡ i * witness_len h + witness_len h = omega (arith, add-mul i 1 (witness_len h)) in
-      let long_rest : length rest + i * witness_len h ≡ length ws = omega (arith, ap length w.rest-is, length-drop (i * witness_len h) ws, w.inside) in
+      let long_rest : length rest + i * witness_len h ≡ length ws = omega (arith, ap length w.rest_is, length-drop (i * witness_len h) ws, w.inside) in
       let long-behind : length behind + witness_len h ≡ length rest = omega (arith, ap length r.behind, length-drop (witness_len h) rest, r.long) in
-      let after : behind ≡ drop ((i + 1) * witness_len h) ws = r.behind ∙ ap (drop (witness_len h)) w.rest-is ∙ drop-drop (witness_len h) (i * witness_len h) ws ∙ ap (λ m. drop m ws) (sym size) in
+      let after : behind ≡ drop ((i + 1) * witness_len h) ws = r.behind ∙ ap (drop (witness_len h)) w.rest_is ∙ drop-drop (witness_len h) (i * witness_len h) ws ∙ ap (λ m. drop m ws) (sym size) in
       let v : Rec = witness (witness_of h rest) in
       let go : Result (List values.Witness) Refused = witnesses_from h (k - i - 1) next behind in
       let one : go_on (witnesses_from h (k - i - 1)) at (length rest) (reads_at h due.Witness at rest) ≡ in_front (witness_of h rest) go =
@@ -138,7 +138,7 @@ module _ (h : Fields) (k start : ℕ) (ws : List ℕ) (i at : ℕ) (rest : List 
       map-range_with_len_more (witness_at h ws) 0 i i (omega arith) ∙ ap (λ y. map (witness_at h ws) (range_with_len 0 i) ++ y ∷ []) here in
       let left : k - i - 1 ≡ k - (i + 1) = omega arith in
       record {
-        at_is = omega (arith, w.at-is, next-is, long-behind, size);
+        at_is = omega (arith, w.at_is, next-is, long-behind, size);
         rest_is = after;
         inside = omega (arith, long_rest, long-behind, size);
         whole = turned ∙ ap (prepend (map (witness_at h ws) (range_with_len 0 i))) one ∙ prepend_more (map (witness_at h ws) (range_with_len 0 i)) (witness_of h rest) go
@@ -159,7 +159,7 @@ module _ (h : Fields) (k start : ℕ) (ws : List ℕ) (i at : ℕ) (rest : List 
       let n : length rest ≡ 0 = eqb-true (length rest) 0 (sym e) in
       let i-is : i ≡ h.k = omega (arith, k-is) in
       let a : at_last h at rest ≡ Ok [] = cond-true (eqb (length rest) 0) (Ok []) (left_over (reads_at h due.Nothing at rest)) (sym e) in
-      let long : length ws ≡ i * witness_len h = omega (arith, ap length w.rest-is, length-drop (i * witness_len h) ws, w.inside, n) in (
+      let long : length ws ≡ i * witness_len h = omega (arith, ap length w.rest_is, length-drop (i * witness_len h) ws, w.inside, n) in (
         ap (λ m. Ok (map (witness_at h ws) (range_with_len 0 m))) (sym i-is) ∙ ap Ok (sym (append-nil (map (witness_at h ws) (range_with_len 0 i)))) ∙ sym (last ∙ ap (prepend (map (witness_at h ws) (range_with_len 0 i))) a),
         record {
           long = long ∙ ap (λ m. m * witness_len h) i-is;

@@ -79,6 +79,6 @@ pub record Formed (h : Fields) (p : Proof) : Type 0 where
 -- where its parts begin in the proof's bytes, which begin at b: the root behind the head, the axis and the index, the path behind the
 -- root, the witnesses behind the claim record
 pub record Lies (h : Fields) (b : Spot) (p : Proof) : Type 0 where
-  pub root_at : p.root.ptr ≡ after b (head_len + 3)
-  pub path_at : p.path.ptr ≡ after b (head_len + 3 + digest_len)
-  pub witnesses_at : p.witnesses.ptr ≡ after b (head_len + claim_body h)
+  pub root_at : p.root.ref_ptr ≡ after b (head_len + 3)
+  pub path_at : p.path.ref_ptr ≡ after b (head_len + 3 + digest_len)
+  pub witnesses_at : p.witnesses.ref_ptr ≡ after b (head_len + claim_body h)

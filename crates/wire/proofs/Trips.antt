@@ -46,8 +46,8 @@ sound h (header g) a i p =
     let ss : g.s < 65536 = grind (arith, nat_tests) in
     let e1 = two_back g.k kk in
     let e2 = two_back g.s ss in
-    let e3 = append-nil g.dataRoot in
-    let n : length g.dataRoot ≡ 32 = eqb-true _ 32 p in
+    let e3 = append-nil g.data_root in
+    let n : length g.data_root ≡ 32 = eqb-true _ 32 p in
     record { known = refl; small = omega arith; long = rw e3 (omega arith); says = rw (e1, e2, e3) refl }
 sound h (roots bs) a i p =
     let e3 = append-nil bs in

@@ -29,10 +29,10 @@ after p n = (p.0, p.1 + n)
 
 -- where the parts of a record begin, its body beginning at p
 abbrev pub Begins : Fields → Spot → Record → Type 0
-Begins h p (Header k s hash code root) = root.ptr ≡ after p 6
-Begins h p (Roots bs) = bs.ptr ≡ after p 0
+Begins h p (Header k s hash code root) = root.ref_ptr ≡ after p 6
+Begins h p (Roots bs) = bs.ref_ptr ≡ after p 0
 Begins h p (Group axis index) = Unit {0}
-Begins h p (Share place sh path) = (sh.ptr ≡ after p 2) × (path.ptr ≡ after p (2 + h.s))
+Begins h p (Share place sh path) = (sh.ref_ptr ≡ after p 2) × (path.ref_ptr ≡ after p (2 + h.s))
 Begins h p GroupEnd = Unit {0}
-Begins h p (Claim axis index root path) = (root.ptr ≡ after p 3) × (path.ptr ≡ after p (3 + digest_len))
-Begins h p (Witness place axis sh path) = (sh.ptr ≡ after p 3) × (path.ptr ≡ after p (3 + h.s))
+Begins h p (Claim axis index root path) = (root.ref_ptr ≡ after p 3) × (path.ref_ptr ≡ after p (3 + digest_len))
+Begins h p (Witness place axis sh path) = (sh.ref_ptr ≡ after p 3) × (path.ref_ptr ≡ after p (3 + h.s))

@@ -30,7 +30,7 @@ kind_of (witness v) = 17
 
 -- a body: numbers, and then up to two runs of bytes
 abbrev pub numbers_of : Rec → List ℕ
-numbers_of (header g) = g.k % 256 ∷ g.k / 256 % 256 ∷ g.s % 256 ∷ g.s / 256 % 256 ∷ g.hashKind ∷ g.codeKind ∷ []
+numbers_of (header g) = g.k % 256 ∷ g.k / 256 % 256 ∷ g.s % 256 ∷ g.s / 256 % 256 ∷ g.hash_kind ∷ g.code_kind ∷ []
 numbers_of (roots bs) = []
 numbers_of (group a i) = a ∷ le2 i
 numbers_of (share p s q) = le2 p
@@ -39,7 +39,7 @@ numbers_of (claim c) = c.axis ∷ le2 c.index
 numbers_of (witness v) = v.place % 256 ∷ v.place / 256 % 256 ∷ v.axis ∷ []
 
 abbrev pub first_of : Rec → List ℕ
-first_of (header g) = g.dataRoot
+first_of (header g) = g.data_root
 first_of (roots bs) = bs
 first_of (group a i) = []
 first_of (share p s q) = s
@@ -64,7 +64,7 @@ bytes_of r = framed (kind_of r) (body_of r)
 
 -- shares, paths and roots have the block's lengths
 unfoldable pub parts_fit : Fields → Rec → Bool
-parts_fit h (header g) = length g.dataRoot == digest_len
+parts_fit h (header g) = length g.data_root == digest_len
 parts_fit h (roots bs) = length bs == roots_len h
 parts_fit h (group a i) = true
 parts_fit h (share p s q) = length s == h.s && length q == path_len h

@@ -13,19 +13,19 @@ returns-then-bytes-gt-FILE_LIMIT c = let r = too_long c.args.bytes.now c.args.fi
 
 pub returns-in_err-header : goal.returns-in_err-header
 returns-in_err-header c =
-    let q = err_from_is_err_and c.from-residual.result c.from-residual.ensures.1 in
+    let q = err_from_is_err_and c.from_residual.result c.from_residual.ensures.1 in
     let r = bad_header c.args.bytes.now c.args.file.now (omega arith) c.in_err-header.field-0.0 c.in_err-header.ensures in
     rw (q.1, q.2) record { answer = r.answer; opened = r.opened }
 
 pub returns-in_err-roots : goal.returns-in_err-roots
 returns-in_err-roots c =
-    let q = err_from_is_err_and c.from-residual-in_err-roots.result c.from-residual-in_err-roots.ensures.1 in
+    let q = err_from_is_err_and c.from_residual-in_err-roots.result c.from_residual-in_err-roots.ensures.1 in
     let r = bad_roots c.args.bytes.now c.args.file.now (omega arith) (fields_of c.in_ok-header.header) c.in_ok-header.ensures c.in_err-roots.field-0.0 c.in_err-roots.ensures in
     rw (q.1, q.2) record { answer = r.answer; opened = r.opened }
 
 pub returns-in_err-walk : goal.returns-in_err-walk
 returns-in_err-walk c =
-    let q = err_from_is_err_and c.from-residual-in_err-walk.result c.from-residual-in_err-walk.ensures.1 in
+    let q = err_from_is_err_and c.from_residual-in_err-walk.result c.from_residual-in_err-walk.ensures.1 in
     let h = fields_of c.in_ok-header.header in
     let bs = c.args.bytes.now in
     let place : 44 + 6 + c.lengths.result.roots ≡ groups_place h = omega (arith, ap (λ l. l.roots) c.lengths.ensures) in

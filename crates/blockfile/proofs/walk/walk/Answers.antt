@@ -22,7 +22,7 @@ returns-in-Err c =
 
 pub returns-in_err-point : goal.returns-in_err-point
 returns-in_err-point c =
-    let q = err_from_is_err_and c.from-residual.result c.from-residual.ensures.1 in
+    let q = err_from_is_err_and c.from_residual.result c.from_residual.ensures.1 in
     let h = fields_of c.args.h.now in
     let bs : List ℕ = c.args.bytes.now in
     let rest : List ℕ = take (length bs - c.loop-at.at) (drop c.loop-at.at bs) in

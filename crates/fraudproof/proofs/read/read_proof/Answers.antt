@@ -8,7 +8,7 @@ use Rattle.fraudproof.proofs.read.read_proof.Goals as goal
 
 pub returns-in_err-item : goal.returns-in_err-item
 returns-in_err-item c =
-    let p = err_from_is_err_and c.from-residual.result c.from-residual.ensures.1 in
+    let p = err_from_is_err_and c.from_residual.result c.from_residual.ensures.1 in
     rw (p.1, p.2) record { answer = no_claim (fields_of c.args.h.now) c.args.bytes.now _ c.in_err-item.ensures.value; formed = tt; place = tt }
 
 pub unreachable-requires : goal.unreachable-requires
@@ -18,7 +18,7 @@ unreachable-requires c =
 
 pub returns-in_err-read_witnesses : goal.returns-in_err-read_witnesses
 returns-in_err-read_witnesses c =
-    let p = err_from_is_err_and c.from-residual-in_err-read_witnesses.result c.from-residual-in_err-read_witnesses.ensures.1 in
+    let p = err_from_is_err_and c.from_residual-in_err-read_witnesses.result c.from_residual-in_err-read_witnesses.ensures.1 in
     let v : values.Claim = record { axis = c.in-Claim.axis; index = c.in-Claim.index; root = c.in-Claim.root.now; path = c.in-Claim.path.now } in
     rw (p.1, p.2) record {
       answer = with_claim_lem (fields_of c.args.h.now) c.args.bytes.now _ _ c.in_ok-item.ensures.value v (ap value_of c.in-Claim.is) _ c.in_err-read_witnesses.ensures.answer;
@@ -31,7 +31,7 @@ returns c =
     let v : values.Claim = record { axis = c.in-Claim.axis; index = c.in-Claim.index; root = c.in-Claim.root.now; path = c.in-Claim.path.now } in
     let w = c.in_ok-read_witnesses.ensures in
     let r = claim_read (fields_of c.args.h.now) 0 c.args.bytes.now _ _ v (sym c.in_ok-item.ensures.value) (ap value_of c.in-Claim.is) in
-    let begins = subst (Begins (fields_of c.args.h.now) (after c.args.bytes.ptr 6)) c.in-Claim.is c.in_ok-item.ensures.place.0 in
+    let begins = subst (Begins (fields_of c.args.h.now) (after c.args.bytes.ref_ptr 6)) c.in-Claim.is c.in_ok-item.ensures.place.0 in
     record {
       answer = with_claim_lem (fields_of c.args.h.now) c.args.bytes.now _ _ c.in_ok-item.ensures.value v (ap value_of c.in-Claim.is) _ w.answer;
       formed = record {
@@ -43,5 +43,5 @@ returns c =
         places_low = w.form.places;
         axes_low = w.form.axes;
       };
-      place = record { root_at = begins.0 ∙ further c.args.bytes.ptr 6 3; path_at = begins.1 ∙ further c.args.bytes.ptr 6 35; witnesses_at = c.in_ok-item.ensures.place.1 ∙ ap (λ n. after c.args.bytes.ptr (6 + n)) r.body };
+      place = record { root_at = begins.0 ∙ further c.args.bytes.ref_ptr 6 3; path_at = begins.1 ∙ further c.args.bytes.ref_ptr 6 35; witnesses_at = c.in_ok-item.ensures.place.1 ∙ ap (λ n. after c.args.bytes.ref_ptr (6 + n)) r.body };
     }

@@ -8,7 +8,7 @@ use Rattle.fraudproof.proofs.read.read_witnesses.Goals as goal
 
 pub returns-in_err-behind : goal.returns-in_err-behind
 returns-in_err-behind c =
-    let p = err_from_is_err_and c.from-residual.result c.from-residual.ensures.1 in
+    let p = err_from_is_err_and c.from_residual.result c.from_residual.ensures.1 in
     rw (p.1, p.2) record {
       answer = walk_break (fields_of c.args.h.now) c.args.h.now.k c.args.start c.args.records.now c.loop-n._n c.loop-n.at c.loop-n.rest.now c.loop-n.invariant (omega arith) _ c.in_err-behind.ensures.value;
       form = tt;
@@ -27,7 +27,7 @@ loop-n-preserved c =
 
 pub returns-in_err-read_at : goal.returns-in_err-read_at
 returns-in_err-read_at c =
-    let p = err_from_is_err_and c.from-residual-in_err-read_at.result c.from-residual-in_err-read_at.ensures.1 in
+    let p = err_from_is_err_and c.from_residual-in_err-read_at.result c.from_residual-in_err-read_at.ensures.1 in
     rw (p.1, p.2) record {
       answer = walk_over (fields_of c.args.h.now) c.args.h.now.k c.args.start c.args.records.now c.loop-n._n c.loop-n.at c.loop-n.rest.now c.loop-n.invariant (omega arith) (omega arith) c.if-not-is_empty.ensures _ c.in_err-read_at.ensures.value;
       form = tt;

@@ -7,18 +7,18 @@ pub returns-in-1 : goal.returns-in-1
 unfolding is_known
 returns-in-1 c = grind (arith, nat_tests)
 
-pub returns-in-1·2 : goal.returns-in-1·2
+pub returns-in-1-2 : goal.returns-in-1-2
 unfolding is_known
-returns-in-1·2 c = grind (arith, nat_tests)
+returns-in-1-2 c = grind (arith, nat_tests)
 
 pub returns-in_default : goal.returns-in_default
 unfolding is_known
 returns-in_default c = grind (arith, nat_tests)
 
-pub returns-in_default·2 : goal.returns-in_default·2
+pub returns-in_default-2 : goal.returns-in_default-2
 unfolding is_known
-returns-in_default·2 c = grind (arith, nat_tests)
+returns-in_default-2 c = grind (arith, nat_tests)
 
-pub returns-in_default·3 : goal.returns-in_default·3
+pub returns-in_default-3 : goal.returns-in_default-3
 unfolding is_known
-returns-in_default·3 c = grind (arith, nat_tests)
+returns-in_default-3 c = grind (arith, nat_tests)

@@ -16,7 +16,7 @@ returns-then-rest-len c = record { value = no_body _ _ _ _ _ c.from_le_bytes-kin
 
 pub returns-in_err-admit : goal.returns-in_err-admit
 returns-in_err-admit c =
-    let p = err_from_is_err_and c.from-residual.result c.from-residual.ensures.1 in
+    let p = err_from_is_err_and c.from_residual.result c.from_residual.ensures.1 in
     let bs : List ℕ = c.args.bytes.now in
     let rest : List ℕ = take (length bs - 6) (drop 6 bs) in
     let long : 6 ≤ length bs = omega (arith, ltb-false) in

@@ -17,7 +17,7 @@ pub returns-in_err-question : goal.returns-in_err-question
 returns-in_err-question g c =
     let a = c.args in
     let m : Meaning = g.S.Store.meaning a.self.now.below in
-    let p = err_from_is_err_and c.from-residual.result c.from-residual.ensures.1 in
+    let p = err_from_is_err_and c.from_residual.result c.from_residual.ensures.1 in
     let q : asked m.k m.s a.cell.row a.cell.col (length a.share.now) (length a.path.now) ≡ Err (told p.0) =
     sym (c.in_err-question.ensures ∙ question_is m (g.S.Store.bounded a.self.now.below) _ _ _ _ _ _ c.half_width-k.ensures c.share_size-s.ensures)
     ∙ ap (λ e. Err (told e)) (sym p.2) in
