@@ -4,4 +4,4 @@ use Rattle.blockfile.proofs.open.no_block.Goals as goal
 
 pub invariant_of-result : goal.invariant_of-result
 unfolding ok_width ok_size
-invariant_of-result c = (refl, (refl, tt))
+invariant_of-result c = record { width = refl; size = refl }

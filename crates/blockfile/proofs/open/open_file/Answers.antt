@@ -40,7 +40,7 @@ invariant_of-file c =
     let place : 44 + 6 + c.lengths.result.roots ≡ groups_place h = omega (arith, ap (λ l. l.roots) c.lengths.ensures) in
     let w = subst (λ n. Walks h bs n (Ok tt) c.walk.new.index) place c.in_ok-walk.ensures in
     let g = good_groups bs c.args.file.now (omega arith) h c.in_ok-header.ensures c.in_ok-roots.roots.now c.in_ok-roots.ensures c.walk.new.index w in
-    (g.2.within, tt)
+    record { within = g.2.within }
 
 pub returns : goal.returns
 returns c =

@@ -17,9 +17,9 @@ returns-in_err-behind c =
 pub overflow_add-at : goal.overflow_add-at
 overflow_add-at c =
     let w = c.loop-n.invariant in
-    let long : length c.loop-n.rest.now + c.loop-n._n * witness_len (fields_of c.args.h.now) ≡ length c.args.records.now = omega (arith, ap length w.rest-is, length-drop (c.loop-n._n * witness_len (fields_of c.args.h.now)) c.args.records.now, w.inside) in
+    let long : length c.loop-n.rest.now + c.loop-n._n * witness_len (fields_of c.args.h.now) ≡ length c.args.records.now = omega (arith, ap length w.rest_is, length-drop (c.loop-n._n * witness_len (fields_of c.args.h.now)) c.args.records.now, w.inside) in
     let pre : c.args.start + length c.args.records.now < 2 ^ 64 = c.requires in
-    omega (arith, w.at-is)
+    omega (arith, w.at_is)
 
 pub loop-n-preserved : goal.loop-n-preserved
 loop-n-preserved c =
