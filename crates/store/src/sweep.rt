@@ -69,11 +69,11 @@ fn sweep_in<H: Hash, S: Store>(
     h: &Header,
     store: &mut S,
     share_len: usize,
-    path_len: usize,
+    path_size: usize,
     square: &mut [u8],
     marks: &mut [u8],
 )
-    requires room { (share_len ≡ (fields_of h.now).s) × ((share_len ≤ 512) × ((path_len ≡ path_len (fields_of h.now)) × (path_len ≤ 416))) }
+    requires room { (share_len ≡ (fields_of h.now).s) × ((share_len ≤ 512) × ((path_size ≡ path_len (fields_of h.now)) × (path_size ≤ 416))) }
     requires out { (length square.old ≡ square_len (fields_of h.now)) × (length marks.old ≡ cell_count (fields_of h.now)) }
     requires store { ((S.Store.meaning store.old).k ≡ (fields_of h.now).k) × ((S.Store.meaning store.old).s ≡ (fields_of h.now).s) }
     ensures { S.Store.ordered store.old → (square.new ≡ held_square H.Hash.meaning (fields_of h.now) (S.Store.meaning store.old)) × (marks.new ≡ held_marks H.Hash.meaning (fields_of h.now) (S.Store.meaning store.old)) × (S.Store.meaning store.new ≡ S.Store.meaning store.old) × S.Store.ordered store.new }
@@ -81,7 +81,7 @@ fn sweep_in<H: Hash, S: Store>(
     let mut share_space = [0u8; SHARE_ROOM];
     let mut path_space = [0u8; PATH_ROOM];
     let share = &mut share_space[0..share_len];
-    let path = &mut path_space[0..path_len];
+    let path = &mut path_space[0..path_size];
     sweep_cells::<H, S>(h, store, share, path, square, marks);
 }
 
