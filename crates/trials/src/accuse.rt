@@ -6,6 +6,7 @@ use hash::digest::Hash;
 use header::cell::{Axis, Cell};
 use header::header::Header;
 use std::alloc::Global;
+use std::process::Abort;
 use std::test::*;
 use wire::record::Record;
 use wire::write::write_record;
@@ -80,6 +81,7 @@ fn axis_byte(axis: Axis) -> u8 {
 
 // Appends the claim record.
 fn append_claim<H: Hash>(
+    rt: &impl Abort,
     heap: Global,
     b: &Small,
     claim: Claimed,
@@ -87,7 +89,7 @@ fn append_claim<H: Hash>(
 ) -> Result<(), Fail> {
     let (axis, index) = claim.path_of;
     let path = path_of::<H>(b, axis, Cell::on_line(axis, index, 0))?;
-    assert!(claim.root_of < 8);
+    assert!(rt; claim.root_of < 8);
     let from = claim.root_of * 32;
     let item = Record::Claim {
         axis: claim.axis,
@@ -100,6 +102,7 @@ fn append_claim<H: Hash>(
 
 // Appends a witness record.
 fn append_witness<H: Hash>(
+    rt: &impl Abort,
     heap: Global,
     b: &Small,
     witness: Witnessed,
@@ -107,8 +110,8 @@ fn append_witness<H: Hash>(
 ) -> Result<(), Fail> {
     let (row, col) = witness.cell;
     let path = path_of::<H>(b, witness.axis, Cell { row, col })?;
-    assert!(row < 4);
-    assert!(col < 4);
+    assert!(rt; row < 4);
+    assert!(rt; col < 4);
     let number = row as usize * 4 + col as usize;
     let item = Record::Witness {
         place: witness.place,
@@ -121,15 +124,16 @@ fn append_witness<H: Hash>(
 
 // The bytes of a claim and of witnesses.
 pub fn proof_of<H: Hash>(
+    rt: &impl Abort,
     heap: Global,
     b: &Small,
     claim: Claimed,
     witnesses: &[Witnessed],
 ) -> Result<Vec<u8>, Fail> {
     let mut proof = Vec::new(heap);
-    append_claim::<H>(heap, b, claim, &mut proof)?;
+    append_claim::<H>(rt, heap, b, claim, &mut proof)?;
     for w in witnesses {
-        append_witness::<H>(heap, b, *w, &mut proof)?;
+        append_witness::<H>(rt, heap, b, *w, &mut proof)?;
     }
     Ok(proof)
 }

@@ -65,20 +65,26 @@ struct Bench {
 }
 
 impl Bench {
-    fn expect(&self, claim: Claimed, witnesses: &[Witnessed], end: End) -> Result<(), Fail> {
-        let proof = proof_of::<Sha256>(self.heap, &self.bad, claim, witnesses)?;
-        assert_eq!(end_of(&self.bad.header, proof.as_slice()), end);
+    fn expect(
+        &self,
+        rt: &impl Abort,
+        claim: Claimed,
+        witnesses: &[Witnessed],
+        end: End,
+    ) -> Result<(), Fail> {
+        let proof = proof_of::<Sha256>(rt, self.heap, &self.bad, claim, witnesses)?;
+        assert_eq!(rt; end_of(&self.bad.header, proof.as_slice()), end);
         Ok(())
     }
 
-    fn good_proof(&self) -> Result<Vec<u8>, Fail> {
-        proof_of::<Sha256>(self.heap, &self.bad, ROW_1, &[AT_0, AT_1])
+    fn good_proof(&self, rt: &impl Abort) -> Result<Vec<u8>, Fail> {
+        proof_of::<Sha256>(rt, self.heap, &self.bad, ROW_1, &[AT_0, AT_1])
     }
 }
 
 // Claims: a line that is sound, another index, a column climbed as a row.
-fn claims(b: &Bench) -> Result<(), Fail> {
-    b.expect(ROW_1, &[AT_0, AT_1], ACCEPTED)?;
+fn claims(rt: &impl Abort, b: &Bench) -> Result<(), Fail> {
+    b.expect(rt, ROW_1, &[AT_0, AT_1], ACCEPTED)?;
     let sound = Claimed {
         axis: 0,
         index: 0,
@@ -97,32 +103,32 @@ fn claims(b: &Bench) -> Result<(), Fail> {
             cell: (0, 2),
         },
     ];
-    b.expect(sound, &on_row_0, (21, None))?;
+    b.expect(rt, sound, &on_row_0, (21, None))?;
     let off_by_one = Claimed {
         axis: 0,
         index: 2,
         root_of: 1,
         path_of: (Row, 1),
     };
-    b.expect(off_by_one, &[AT_0, AT_1], (18, None))?;
+    b.expect(rt, off_by_one, &[AT_0, AT_1], (18, None))?;
     let other_root = Claimed {
         axis: 0,
         index: 1,
         root_of: 2,
         path_of: (Row, 1),
     };
-    b.expect(other_root, &[AT_0, AT_1], (18, None))?;
+    b.expect(rt, other_root, &[AT_0, AT_1], (18, None))?;
     let from_c = Claimed {
         axis: 1,
         index: 3,
         root_of: 7,
         path_of: (Row, 3),
     };
-    b.expect(from_c, &[AT_0, AT_1], (18, None))
+    b.expect(rt, from_c, &[AT_0, AT_1], (18, None))
 }
 
 // Column 3 is badly coded too.
-fn columns(b: &Bench) -> Result<(), Fail> {
+fn columns(rt: &impl Abort, b: &Bench) -> Result<(), Fail> {
     let column_3 = Claimed {
         axis: 1,
         index: 3,
@@ -139,39 +145,39 @@ fn columns(b: &Bench) -> Result<(), Fail> {
         axis: Row,
         cell: (1, 3),
     };
-    b.expect(column_3, &[first, second], ACCEPTED)?;
+    b.expect(rt, column_3, &[first, second], ACCEPTED)?;
     let by_row_as_column = Witnessed {
         place: 0,
         axis: Column,
         cell: (3, 0),
     };
-    b.expect(column_3, &[by_row_as_column, second], (20, Some(0)))
+    b.expect(rt, column_3, &[by_row_as_column, second], (20, Some(0)))
 }
 
 // Witnesses: places that repeat or fall, a witness of another row, of another place, one too few, one too many.
-fn witnesses(b: &Bench) -> Result<(), Fail> {
-    b.expect(ROW_1, &[AT_0, AT_0], (19, None))?;
-    b.expect(ROW_1, &[AT_1, AT_0], (19, None))?;
+fn witnesses(rt: &impl Abort, b: &Bench) -> Result<(), Fail> {
+    b.expect(rt, ROW_1, &[AT_0, AT_0], (19, None))?;
+    b.expect(rt, ROW_1, &[AT_1, AT_0], (19, None))?;
     let other_row = Witnessed {
         place: 0,
         axis: Row,
         cell: (2, 0),
     };
-    b.expect(ROW_1, &[other_row, AT_1], (20, Some(0)))?;
+    b.expect(rt, ROW_1, &[other_row, AT_1], (20, Some(0)))?;
     let other_place = Witnessed {
         place: 2,
         axis: Row,
         cell: (1, 3),
     };
-    b.expect(ROW_1, &[AT_0, other_place], (20, Some(1)))?;
-    b.expect(ROW_1, &[], (10, Some(137)))?;
-    b.expect(ROW_1, &[AT_0], (10, Some(307)))?;
-    b.expect(ROW_1, &[AT_0, AT_1, AT_1], (10, Some(477)))
+    b.expect(rt, ROW_1, &[AT_0, other_place], (20, Some(1)))?;
+    b.expect(rt, ROW_1, &[], (10, Some(137)))?;
+    b.expect(rt, ROW_1, &[AT_0], (10, Some(307)))?;
+    b.expect(rt, ROW_1, &[AT_0, AT_1, AT_1], (10, Some(477)))
 }
 
 // Bytes behind the last witness, and headers that the proof is not for.
 fn others(rt: &impl Abort, b: &Bench) -> Result<(), Fail> {
-    let mut proof = b.good_proof()?;
+    let mut proof = b.good_proof(rt)?;
     assert_eq!(rt; end_of(&b.good.header, proof.as_slice()), (18, None));
     let hash = match check_proof::<Sha3, Polynomial>(&b.bad.header, proof.as_slice()) {
         Ok(()) => ACCEPTED,
@@ -213,7 +219,7 @@ fn flipped_end(i: usize) -> End {
 }
 
 fn flips(rt: &impl Abort, b: &Bench) -> Result<(), Fail> {
-    let proof = b.good_proof()?;
+    let proof = b.good_proof(rt)?;
     assert_eq!(rt; proof.len(), 477);
     for i in 0..477usize {
         let mut bytes = proof.clone()?;
@@ -233,9 +239,9 @@ fn false_proofs(rt: HostRuntime) -> Result<(), Fail> {
         bad: committed::<Sha256>(BAD)?,
         good: committed::<Sha256>(GOOD)?,
     };
-    claims(&b)?;
-    columns(&b)?;
-    witnesses(&b)?;
+    claims(&rt, &b)?;
+    columns(&rt, &b)?;
+    witnesses(&rt, &b)?;
     others(&rt, &b)?;
     flips(&rt, &b)
 }

@@ -6,6 +6,7 @@ use header::header::Header;
 use sha256::digest::Sha256;
 use square::extend::extend;
 use std::alloc::Global;
+use std::process::Abort;
 use std::test::*;
 use wire::record::Record;
 use wire::write::write_record;
@@ -69,6 +70,7 @@ fn append(
 }
 
 fn append_share(
+    rt: &impl Abort,
     heap: Global,
     block: &Sample,
     axis: Axis,
@@ -81,7 +83,7 @@ fn append_share(
     let number = usize::from(cell.row)
         .wrapping_mul(4)
         .wrapping_add(usize::from(cell.col));
-    assert!(number < 16);
+    assert!(rt; number < 16);
     let item = Record::Share {
         place: cell.place(axis),
         share: &block.square[number..number + 1],
@@ -99,6 +101,7 @@ fn end_item<'a>() -> Record<'a> {
 }
 
 fn append_piece(
+    rt: &impl Abort,
     heap: Global,
     block: &Sample,
     piece: Piece,
@@ -124,7 +127,14 @@ fn append_piece(
             let item = group_item(axis, index);
             append(heap, h, &item, GROUP, file)
         }
-        Piece::Share(axis, row, col) => append_share(heap, block, axis, Cell { row, col }, file),
+        Piece::Share(axis, row, col) => append_share(
+            rt,
+            heap,
+            block,
+            axis,
+            Cell { row, col },
+            file,
+        ),
         Piece::End => {
             let item = end_item();
             append(heap, h, &item, END, file)
@@ -142,10 +152,15 @@ fn append_piece(
 }
 
 // The file of these pieces, one after the other.
-pub fn file_of(heap: Global, block: &Sample, pieces: &[Piece]) -> Result<Vec<u8>, Fail> {
+pub fn file_of(
+    rt: &impl Abort,
+    heap: Global,
+    block: &Sample,
+    pieces: &[Piece],
+) -> Result<Vec<u8>, Fail> {
     let mut file = Vec::new(heap);
     for piece in pieces {
-        append_piece(heap, block, *piece, &mut file)?;
+        append_piece(rt, heap, block, *piece, &mut file)?;
     }
     Ok(file)
 }

@@ -1,11 +1,11 @@
 // False proofs against a good block under a hash that is easily broken, and the collisions that are extracted from them.
 use crate::accuse::{Claimed, Small, Witnessed, committed, proof_of};
-use octets::compare::same;
 use erasure::kinds::Polynomial;
 use extraction::extract::extract;
 use fraud::check::check_proof;
 use hash::digest::Hash;
 use header::cell::Axis::{Column, Row};
+use octets::compare::same;
 use std::alloc::Global;
 use std::process::Abort;
 use std::test::*;
@@ -81,7 +81,7 @@ fn wrong_shares(rt: &impl Abort, heap: Global, good: &Small) -> Result<(usize, u
     for x in 0..256usize {
         let mut b = *good;
         b.square[4] = (x % 256) as u8;
-        let proof = proof_of::<Weak>(heap, &b, ROW_1, &[AT_0, AT_1])?;
+        let proof = proof_of::<Weak>(rt, heap, &b, ROW_1, &[AT_0, AT_1])?;
         if check_proof::<Weak, Polynomial>(&b.header, proof.as_slice()).is_ok() {
             accepted = accepted.wrapping_add(1);
             if extracted(rt, &b, proof.as_slice())? == 2 {
@@ -99,7 +99,7 @@ fn wrong_roots(rt: &impl Abort, heap: Global, good: &Small) -> Result<(usize, us
     for x in 0..256usize {
         let mut b = *good;
         b.roots[40] = (x % 256) as u8;
-        let proof = proof_of::<Weak>(heap, &b, ROW_1, &[AT_0, AT_1_BY_ROW])?;
+        let proof = proof_of::<Weak>(rt, heap, &b, ROW_1, &[AT_0, AT_1_BY_ROW])?;
         if check_proof::<Weak, Polynomial>(&b.header, proof.as_slice()).is_ok() {
             accepted = accepted.wrapping_add(1);
             if extracted(rt, &b, proof.as_slice())? == 33 {

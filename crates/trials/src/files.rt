@@ -32,23 +32,23 @@ struct Bench {
 
 impl Bench {
     // Opens the file of these pieces.
-    fn expect(&self, pieces: &[Piece], end: End) -> Result<(), Fail> {
-        let file = file_of(self.heap, &self.block, pieces)?;
-        assert_eq!(end_of(file.as_slice()), end);
+    fn expect(&self, rt: &impl Abort, pieces: &[Piece], end: End) -> Result<(), Fail> {
+        let file = file_of(rt, self.heap, &self.block, pieces)?;
+        assert_eq!(rt; end_of(file.as_slice()), end);
         Ok(())
     }
 
     // Opens a file of a header and roots, which end at byte 306, and these bytes.
-    fn behind(&self, bytes: &[u8], end: End) -> Result<(), Fail> {
+    fn behind(&self, rt: &impl Abort, bytes: &[u8], end: End) -> Result<(), Fail> {
         let pieces = [Piece::Header, Piece::Roots];
-        let mut file = file_of(self.heap, &self.block, &pieces)?;
+        let mut file = file_of(rt, self.heap, &self.block, &pieces)?;
         file.extend_from_slice(bytes)?;
-        assert_eq!(end_of(file.as_slice()), end);
+        assert_eq!(rt; end_of(file.as_slice()), end);
         Ok(())
     }
 
     // A file with one share in one group, in which one byte is changed.
-    fn changed(&self, at: usize, byte: u8, end: End) -> Result<(), Fail> {
+    fn changed(&self, rt: &impl Abort, at: usize, byte: u8, end: End) -> Result<(), Fail> {
         let pieces = [
             Piece::Header,
             Piece::Roots,
@@ -56,22 +56,23 @@ impl Bench {
             Piece::Share(Row, 0, 0),
             Piece::End,
         ];
-        let mut file = file_of(self.heap, &self.block, &pieces)?;
+        let mut file = file_of(rt, self.heap, &self.block, &pieces)?;
         let Some(place) = file.get_mut(at) else {
             return Err(Fail::new("no such byte"));
         };
         *place = byte;
-        assert_eq!(end_of(file.as_slice()), end, "a byte was changed");
+        assert_eq!(rt; end_of(file.as_slice()), end, "a byte was changed");
         Ok(())
     }
 }
 
 // Something is due where the bytes end.
-fn lacking(b: &Bench) -> Result<(), Fail> {
-    b.expect(&[], (10, Some(0)))?;
-    b.expect(&[Piece::Header], (10, Some(44)))?;
-    b.expect(&[Piece::Header, Piece::Roots], OPENS)?;
+fn lacking(rt: &impl Abort, b: &Bench) -> Result<(), Fail> {
+    b.expect(rt, &[], (10, Some(0)))?;
+    b.expect(rt, &[Piece::Header], (10, Some(44)))?;
+    b.expect(rt, &[Piece::Header, Piece::Roots], OPENS)?;
     b.expect(
+        rt,
         &[
             Piece::Header,
             Piece::Roots,
@@ -83,15 +84,21 @@ fn lacking(b: &Bench) -> Result<(), Fail> {
 }
 
 // A record that does not belong where it stands.
-fn not_due(b: &Bench) -> Result<(), Fail> {
-    b.expect(&[Piece::Roots], (10, Some(0)))?;
-    b.expect(&[Piece::Header, Piece::Header], (10, Some(44)))?;
-    b.expect(&[Piece::Header, Piece::Roots, Piece::End], (10, Some(306)))?;
+fn not_due(rt: &impl Abort, b: &Bench) -> Result<(), Fail> {
+    b.expect(rt, &[Piece::Roots], (10, Some(0)))?;
+    b.expect(rt, &[Piece::Header, Piece::Header], (10, Some(44)))?;
     b.expect(
+        rt,
+        &[Piece::Header, Piece::Roots, Piece::End],
+        (10, Some(306)),
+    )?;
+    b.expect(
+        rt,
         &[Piece::Header, Piece::Roots, Piece::Claim],
         (10, Some(306)),
     )?;
     b.expect(
+        rt,
         &[
             Piece::Header,
             Piece::Roots,
@@ -101,6 +108,7 @@ fn not_due(b: &Bench) -> Result<(), Fail> {
         (10, Some(315)),
     )?;
     b.expect(
+        rt,
         &[
             Piece::Header,
             Piece::Roots,
@@ -111,6 +119,7 @@ fn not_due(b: &Bench) -> Result<(), Fail> {
         (10, Some(484)),
     )?;
     b.expect(
+        rt,
         &[
             Piece::Header,
             Piece::Roots,
@@ -123,47 +132,49 @@ fn not_due(b: &Bench) -> Result<(), Fail> {
 }
 
 // Heads behind the roots: lengths of 0 and 0xFFFFFFFF, unknown kinds, and bytes too many.
-fn heads(b: &Bench) -> Result<(), Fail> {
-    b.behind(&[0, 0, 0, 0, 3, 0], (9, Some(306)))?;
-    b.behind(&[0xff, 0xff, 0xff, 0xff, 3, 0], (7, Some(306)))?;
-    b.behind(&[0xff, 0xff, 0xff, 0xff, 0, 0], (7, Some(306)))?;
-    b.behind(&[0, 0, 0, 0, 0, 0], (8, Some(306)))?;
-    b.behind(&[0, 0, 0, 0, 6, 0], (8, Some(306)))?;
-    b.behind(&[0, 0, 0, 0, 7, 0], (8, Some(306)))?;
-    b.behind(&[0, 0, 0, 0, 0xff, 0xff], (8, Some(306)))?;
-    b.behind(&[0, 0, 0, 0, 4, 0], (10, Some(306)))?;
+fn heads(rt: &impl Abort, b: &Bench) -> Result<(), Fail> {
+    b.behind(rt, &[0, 0, 0, 0, 3, 0], (9, Some(306)))?;
+    b.behind(rt, &[0xff, 0xff, 0xff, 0xff, 3, 0], (7, Some(306)))?;
+    b.behind(rt, &[0xff, 0xff, 0xff, 0xff, 0, 0], (7, Some(306)))?;
+    b.behind(rt, &[0, 0, 0, 0, 0, 0], (8, Some(306)))?;
+    b.behind(rt, &[0, 0, 0, 0, 6, 0], (8, Some(306)))?;
+    b.behind(rt, &[0, 0, 0, 0, 7, 0], (8, Some(306)))?;
+    b.behind(rt, &[0, 0, 0, 0, 0xff, 0xff], (8, Some(306)))?;
+    b.behind(rt, &[0, 0, 0, 0, 4, 0], (10, Some(306)))?;
     b.behind(
+        rt,
         &[3, 0, 0, 0, 3, 0, 0, 0, 0, 0, 0, 0, 0, 3, 0],
         (10, Some(315)),
     )?;
-    b.behind(&[0], (7, Some(306)))?;
-    b.behind(&[0; 2], (7, Some(306)))?;
-    b.behind(&[0; 3], (7, Some(306)))?;
-    b.behind(&[0; 4], (7, Some(306)))?;
-    b.behind(&[0; 5], (7, Some(306)))
+    b.behind(rt, &[0], (7, Some(306)))?;
+    b.behind(rt, &[0; 2], (7, Some(306)))?;
+    b.behind(rt, &[0; 3], (7, Some(306)))?;
+    b.behind(rt, &[0; 4], (7, Some(306)))?;
+    b.behind(rt, &[0; 5], (7, Some(306)))
 }
 
 // One byte of a good file changed: lengths and values.
-fn values(b: &Bench) -> Result<(), Fail> {
-    b.changed(6, 3, (11, Some(0)))?;
-    b.changed(8, 0, (11, Some(0)))?;
-    b.changed(9, 2, (11, Some(0)))?;
-    b.changed(10, 99, OPENS)?;
-    b.changed(0, 37, (9, Some(0)))?;
-    b.changed(44, 1, (9, Some(44)))?;
-    b.changed(312, 1, OPENS)?;
-    b.changed(312, 2, (11, Some(306)))?;
-    b.changed(313, 4, (11, Some(306)))?;
-    b.changed(314, 1, (11, Some(306)))?;
-    b.changed(315, 0xa2, (9, Some(315)))?;
-    b.changed(321, 3, OPENS)?;
-    b.changed(321, 4, (11, Some(315)))?;
-    b.changed(322, 1, (11, Some(315)))
+fn values(rt: &impl Abort, b: &Bench) -> Result<(), Fail> {
+    b.changed(rt, 6, 3, (11, Some(0)))?;
+    b.changed(rt, 8, 0, (11, Some(0)))?;
+    b.changed(rt, 9, 2, (11, Some(0)))?;
+    b.changed(rt, 10, 99, OPENS)?;
+    b.changed(rt, 0, 37, (9, Some(0)))?;
+    b.changed(rt, 44, 1, (9, Some(44)))?;
+    b.changed(rt, 312, 1, OPENS)?;
+    b.changed(rt, 312, 2, (11, Some(306)))?;
+    b.changed(rt, 313, 4, (11, Some(306)))?;
+    b.changed(rt, 314, 1, (11, Some(306)))?;
+    b.changed(rt, 315, 0xa2, (9, Some(315)))?;
+    b.changed(rt, 321, 3, OPENS)?;
+    b.changed(rt, 321, 4, (11, Some(315)))?;
+    b.changed(rt, 322, 1, (11, Some(315)))
 }
 
 // A cell that comes twice, and groups that may come in any way.
-fn cells(b: &Bench) -> Result<(), Fail> {
+fn cells(rt: &impl Abort, b: &Bench) -> Result<(), Fail> {
     b.expect(
+        rt,
         &[
             Piece::Header,
             Piece::Roots,
@@ -177,6 +188,7 @@ fn cells(b: &Bench) -> Result<(), Fail> {
         (12, Some(499)),
     )?;
     b.expect(
+        rt,
         &[
             Piece::Header,
             Piece::Roots,
@@ -187,6 +199,7 @@ fn cells(b: &Bench) -> Result<(), Fail> {
         (12, Some(484)),
     )?;
     b.expect(
+        rt,
         &[
             Piece::Header,
             Piece::Roots,
@@ -249,7 +262,7 @@ fn prefixes(rt: &impl Abort, b: &Bench) -> Result<(), Fail> {
         Piece::Share(Column, 0, 2),
         Piece::End,
     ];
-    let file = file_of(b.heap, &b.block, &pieces)?;
+    let file = file_of(rt, b.heap, &b.block, &pieces)?;
     assert_eq!(rt; file.len(), 843);
     for n in 0..844usize {
         let Some(front) = file.as_slice().get(0..n) else {
@@ -266,11 +279,11 @@ fn bad_files(rt: HostRuntime) -> Result<(), Fail> {
         heap: rt.alloc(),
         block: small_block()?,
     };
-    lacking(&b)?;
-    not_due(&b)?;
-    heads(&b)?;
-    values(&b)?;
-    cells(&b)?;
+    lacking(&rt, &b)?;
+    not_due(&rt, &b)?;
+    heads(&rt, &b)?;
+    values(&rt, &b)?;
+    cells(&rt, &b)?;
     prefixes(&rt, &b)?;
     let long = vec![in b.heap; 0u8; 4194305]?;
     assert_eq!(rt; end_of(long.as_slice()), (6, None));

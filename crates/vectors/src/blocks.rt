@@ -82,8 +82,8 @@ fn block_agrees(heap: Global, words: &mut SplitWhitespace<'_>) -> anyhow::Result
     Sha256::hash_message(block.roots.as_slice(), &mut digest)?;
     Ok(
         is_headed(&block, shape)
-            && data_root.as_slice() == &block.header.data_root
-            && roots_digest.as_slice() == &digest,
+            && data_root.as_slice() == block.header.data_root.as_slice()
+            && roots_digest.as_slice() == digest.as_slice(),
     )
 }
 

@@ -83,6 +83,6 @@ impl Lines for Digests {
             _ => return Err(anyhow!("a line has an unknown word")),
         };
         let theirs = unhex(heap, word(&mut words)?)?;
-        Ok(theirs.as_slice() == &ours)
+        Ok(theirs.as_slice() == ours.as_slice())
     }
 }
