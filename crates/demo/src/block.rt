@@ -1,6 +1,6 @@
 // A block of two by two shares of one byte, extended.
+use crate::shares;
 use crate::text::{hex, numbers};
-use crate::{accusation, file, layers, shares};
 use erasure::kinds::Polynomial;
 use hash::limits::DIGEST_LEN;
 use header::header::Header;
@@ -59,9 +59,5 @@ pub fn show(rt: &HostRuntime) -> anyhow::Result<()> {
     show_square(rt, &square)?;
     show_roots(rt, &roots)?;
     show_header(rt, &h)?;
-    shares::show(rt, &h, &square, &roots)?;
-    let bytes = file::written(rt, &h, &square, &roots)?;
-    file::show(rt, bytes.as_slice())?;
-    layers::show(rt, &h, bytes.as_slice())?;
-    accusation::show(rt, &h, &square)
+    shares::show(rt, &h, &square, &roots)
 }

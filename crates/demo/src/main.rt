@@ -1,13 +1,9 @@
 // One small block from its beginning to its end, printed. What it writes is compared with the file `stdout`.
 #![tactic(auto)]
 
-
-mod accusation;
 mod block;
 mod codes;
-mod file;
 mod hashes;
-mod layers;
 mod shares;
 mod text;
 
