@@ -7,10 +7,10 @@ ghost use Rattle.merkle.specs.Climb.{above, alone, beside, input, plain_rule};
 ghost use Rattle.merkle.specs.Tree.{side};
 
 use crate::strings::{differ, put_leaf, put_pair};
-use octets::compare::same;
 use climbs::node::{leaf_digest, parent_digest};
 use hash::digest::Hash;
 use hash::limits::DIGEST_LEN;
+use octets::compare::same;
 
 // Compares two leaf values. Where they collide it writes their strings; their nodes go to `a` and `b`.
 pub(crate) fn leaf_level<H: Hash>(

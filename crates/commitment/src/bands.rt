@@ -10,12 +10,12 @@ ghost use Rattle.merkle.specs.Layout.{tree_len};
 ghost use Rattle.merkle.specs.Tree.{node, root};
 
 use crate::line::put_line;
-use octets::splice::splice;
 use climbs::node::node_digest;
 use hash::digest::Hash;
 use hash::limits::DIGEST_LEN;
 use layout::cut::tree_root;
 use layout::grow::grow;
+use octets::splice::splice;
 
 // The tree of the longest line.
 const TREE_ROOM: usize = 4064;

@@ -7,13 +7,13 @@ ghost use Rattle.hash.specs.Digests.{digest_len, parts_limit};
 ghost use Rattle.merkle.specs.Climb.{slot};
 ghost use Rattle.merkle.specs.Layout.{tree_len};
 
-use octets::splice::splice;
 use climbs::node::leaf_digest;
 use hash::digest::Hash;
 use hash::limits::{DIGEST_LEN, PARTS_LIMIT};
 use layout::cut::tree_root;
 use layout::grow::grow;
 use layout::size::{is_tree, leaves};
+use octets::splice::splice;
 
 // The tree over the roots of the largest square.
 const TREE_ROOM: usize = 8160;

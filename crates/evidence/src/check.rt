@@ -9,13 +9,13 @@ ghost use Rattle.header.specs.Refusals.{told};
 ghost use Rattle.header.specs.Sizes.{line_number_in};
 ghost use Rattle.merkle.specs.Climb.{climb, plain_rule, through_two};
 
-use octets::compare::same;
 use climbs::climb::climb_leaf;
 use hash::digest::Hash;
 use hash::limits::DIGEST_LEN;
 use header::cell::{Axis, Cell};
 use header::header::Header;
 use header::refusal::SquareRefusal;
+use octets::compare::same;
 
 // The number of the cell's line along an axis, which is its leaf in the data tree.
 pub(crate) fn line_number(axis: Axis, width: usize, cell: Cell) -> usize

@@ -7,7 +7,6 @@ ghost use Rattle.square.specs.Extend.{Extended};
 ghost use Rattle.std.specs.Str.{bytes_eq};
 ghost use Rattle.std.specs.Prelude.{◌≡◌, length};
 
-use octets::compare::same;
 use commitment::roots::square_roots;
 use commitment::values::value_root;
 use erasure::code::Code;
@@ -15,6 +14,7 @@ use extension::fill::fill;
 use hash::digest::Hash;
 use hash::limits::DIGEST_LEN;
 use header::header::Header;
+use octets::compare::same;
 
 // Whether the data root over some roots is the header's.
 fn is_header_of<H: Hash>(h: &Header, roots: &[u8]) -> bool

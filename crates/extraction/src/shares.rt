@@ -9,13 +9,13 @@ ghost use Rattle.header.specs.Fields.{fields_of};
 ghost use Rattle.header.specs.Sizes.{square_len, width};
 ghost use Rattle.std.specs.List.{range_with_len};
 
-use octets::compare::same;
 use fraud::lines::witness_cell;
 use fraudproof::cut::witness_of;
 use fraudproof::proof::Proof;
 use fraudproof::witness::Witness;
 use header::cell::Cell;
 use header::header::Header;
+use octets::compare::same;
 
 // The share of a cell of the square.
 pub(crate) fn cell_share<'a>(h: &Header, square: &'a [u8], cell: Cell) -> &'a [u8]

@@ -6,12 +6,12 @@ ghost use Rattle.header.specs.Fields.{fields_of};
 ghost use Rattle.std.specs.Prelude.{◌≡◌};
 
 use crate::lines::{axis_by, line_number};
-use octets::compare::same;
 use climbs::climb::climb_leaf;
 use fraudproof::proof::Proof;
 use hash::digest::Hash;
 use hash::limits::DIGEST_LEN;
 use header::header::Header;
+use octets::compare::same;
 
 // Whether the claimed root is under the data root.
 pub(crate) fn is_committed<H: Hash>(h: &Header, p: &Proof) -> bool

@@ -17,8 +17,6 @@ ghost use Rattle.header.specs.Fields.{fields_of};
 ghost use Rattle.header.specs.Sizes.{axis_tree_len, depth, width};
 ghost use Rattle.std.specs.Str.{bytes_eq};
 
-use octets::compare::same;
-use octets::splice::splice;
 use climbs::node::leaf_digest;
 use erasure::code::Code;
 use erasure::rows::apply_row;
@@ -27,6 +25,8 @@ use hash::limits::DIGEST_LEN;
 use header::header::Header;
 use layout::cut::tree_root;
 use layout::grow::grow;
+use octets::compare::same;
+use octets::splice::splice;
 
 // The head of a record, and where the share begins in that of a witness.
 const HEAD_LEN: usize = 6;

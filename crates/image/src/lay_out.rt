@@ -9,7 +9,6 @@ ghost use Rattle.header.specs.Refusals.{told};
 ghost use Rattle.header.specs.Sizes.{axis_tree_len, data_tree_len, depth, image_len, line_count, roots_len, square_len, width};
 ghost use Rattle.image.specs.Image.{data_tree, image_fits, image_of, image_outcome, row_trees};
 
-use octets::splice::splice;
 use commitment::line::line_tree;
 use commitment::roots::square_roots;
 use commitment::values::value_tree;
@@ -17,6 +16,7 @@ use hash::digest::Hash;
 use hash::limits::DIGEST_LEN;
 use header::header::Header;
 use header::refusal::SquareRefusal;
+use octets::splice::splice;
 
 // The tree of the longest line, the most roots, and the tree over them.
 const AXIS_ROOM: usize = 4064;

@@ -8,8 +8,8 @@ ghost use Rattle.merkle.specs.Layout.{path_of, root_of, tree_len};
 ghost use Rattle.merkle.specs.Tree.{flip};
 
 use crate::size::{is_tree, leaves};
-use octets::splice::splice;
 use hash::limits::DIGEST_LEN;
+use octets::splice::splice;
 
 // Copies entry `from` of a row of digests to entry `to` of another.
 fn copy_entry(row: &[u8], from: usize, out: &mut [u8], to: usize)

@@ -7,10 +7,10 @@ ghost use Rattle.merkle.specs.Climb.{join_of, plain_rule, slot};
 ghost use Rattle.merkle.specs.Layout.{tree_layout, tree_len};
 
 use crate::size::{is_tree, leaves};
-use octets::splice::splice;
 use climbs::node::node_digest;
 use hash::digest::Hash;
 use hash::limits::DIGEST_LEN;
+use octets::splice::splice;
 
 // Writes the node over entries 2i and 2i + 1 to entry `to`.
 fn join_pair<H: Hash>(tree: &mut [u8], i: usize, to: usize)

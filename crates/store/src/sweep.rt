@@ -9,11 +9,11 @@ ghost use Rattle.store.specs.Sweeping.{Holds, Swept, held_marks, held_square, sw
 
 use crate::store::Store;
 use crate::taking::take_evidence;
-use octets::splice::splice;
-use octets::window::clear;
 use hash::digest::Hash;
 use header::cell::Cell;
 use header::header::Header;
+use octets::splice::splice;
+use octets::window::clear;
 
 // The longest share and the longest path.
 const SHARE_ROOM: usize = 512;

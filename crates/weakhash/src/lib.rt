@@ -6,9 +6,9 @@ ghost use Rattle.std.specs.Prelude.{◌≡◌, length};
 ghost use Rattle.sha256.specs.Message;
 ghost use Rattle.weakhash.specs.Few.{few_sized, few_bytes};
 
-use octets::window::clear;
 use hash::digest::Hash;
 use hash::refusal::DigestRefusal;
+use octets::window::clear;
 use sha256::digest::Sha256;
 
 pub struct Weak;
