@@ -1,12 +1,11 @@
 -- The numbers with `bit_xor` and the field's product as the ring of `Ring`, and what all codes over it share whose words are scaled
 -- values of polynomials.
-use Rattle.std.proofs.Common.{◌≡◌, ℕ, zero, suc, ◌*◌, ◌<◌, ◌≤◌, Bool, true, false, cond, eqb, ltb, ◌≢◌, sym, refl, ap, ◌∙◌, subst, ap₂, arith, lit<, le-ltb, lt-ltb, eq-eqb, ne_eqb}
-use native.Mathlib.Decide.{ℕ_discrete, dec_lt}
-use lib.Bits.{bit_xor, xor_assoc, xor_comm, xor_self, xor_zero_r, xor_lt}
-use Rattle.galois.specs.Field.{mul, inv, div}
+use Rattle.std.proofs.Common.{◌≡◌, ℕ, zero, suc, ◌*◌, ◌<◌, ◌≤◌, ◌≢◌, sym, refl, ap, ◌∙◌, subst, arith, lit<}
+use lib.Bits.{bit_xor, xor_assoc, xor_comm, xor_self, xor_lt}
+use Rattle.galois.specs.Field.{mul, inv}
 use Rattle.galois.proofs.Law.{mul_comm, mul_assoc, one_mul_byte, mul_inv}
 use Rattle.galois.proofs.Steps.{mul_byte, mul_xor}
-use Rattle.codes.specs.Over.{over, except}
+use Rattle.codes.specs.Over.{over}
 use Rattle.codes.specs.Code.{Table, applied, symbol, lagrange, Places, Meets}
 use Rattle.codes.proofs.Ring.{Ring}
 use Rattle.codes.proofs.Ring as ring

@@ -1,12 +1,12 @@
 -- The Cauchy code: its two laws, its weights, and that its symbols are sums of quotients.
-use Rattle.std.proofs.Common.{◌≡◌, ℕ, zero, suc, ◌*◌, ◌<◌, ◌≤◌, Bool, true, false, cond, eqb, ltb, ◌≢◌, ◌⊎◌, List, [], ◌∷◌, sym, refl, ap, ◌∙◌, subst, ap₂, inl, inr, arith, lit<, le-ltb, lt-ltb, eq-eqb, ne_eqb}
+use Rattle.std.proofs.Common.{◌≡◌, ℕ, ◌*◌, ◌<◌, ◌≤◌, cond, eqb, ◌≢◌, sym, refl, ap, ◌∙◌, subst, arith, le-ltb, lt-ltb, eq-eqb, ne_eqb}
 use native.Mathlib.Decide.{dec_lt}
 use lib.Bits.{bit_xor, xor_self}
 use Rattle.galois.specs.Field.{mul, inv, div}
-use Rattle.galois.proofs.Law.{mul_comm, mul_assoc, one_mul_byte}
+use Rattle.galois.proofs.Law.{mul_comm, one_mul_byte}
 use Rattle.galois.proofs.Steps.{mul_byte}
 use Rattle.codes.specs.Over.{over, except}
-use Rattle.codes.specs.Code.{Table, applied, symbol, cauchy, FirstLaw, SecondLaw, WeightLaw, CauchyLaw, scaled_weight, cauchy_scale}
+use Rattle.codes.specs.Code.{applied, symbol, cauchy, FirstLaw, SecondLaw, WeightLaw, CauchyLaw, scaled_weight, cauchy_scale}
 use Rattle.codes.proofs.Ring as ring
 use Rattle.codes.proofs.Bytes.{bytes, inverse, unit_inv, Deg, Scaled, second, meets}
 

@@ -1,10 +1,10 @@
 -- The extension by rows and columns, and by columns and rows.
-use Rattle.std.proofs.Common.{◌≡◌, ℕ, sym, refl, ap, ◌∙◌, subst, ap₂}
+use Rattle.std.proofs.Common.{ℕ, sym, refl, ◌∙◌}
 use lib.Bits.{bit_xor}
 use Rattle.galois.specs.Field.{polynomial_product, reduced, mul, squares, inv}
 use Rattle.codes.specs.Over.{over}
-use Rattle.codes.specs.Code.{Table, applied, symbol, lagrange, polynomial}
-use Rattle.codes.specs.Grid.{extended, GridLaw, SquareValues}
+use Rattle.codes.specs.Code.{applied, symbol, lagrange, polynomial}
+use Rattle.codes.specs.Grid.{GridLaw, SquareValues}
 use Rattle.codes.proofs.Ring as ring
 use Rattle.codes.proofs.Bytes.{bytes}
 

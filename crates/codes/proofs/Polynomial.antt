@@ -1,13 +1,11 @@
 -- The polynomial code: its two laws, its weights, and that its symbols are a polynomial's values.
-use Rattle.std.proofs.Common.{◌≡◌, ℕ, zero, suc, ◌*◌, ◌%◌, ◌<◌, ◌≤◌, ◌≢◌, List, [], ◌∷◌, map, length, get_or, sym, refl, ap, ◌∙◌, subst, ap₂, mod-lt, mod-eq_of_lt, arith, lit<}
-use mathlib.Core.Path.{fun_ext}
+use Rattle.std.proofs.Common.{◌≡◌, ℕ, zero, suc, ◌*◌, ◌%◌, ◌<◌, ◌≤◌, List, [], ◌∷◌, map, length, get_or, sym, refl, ap, ◌∙◌, subst, ap₂, mod-lt, mod-eq_of_lt, arith, lit<}
 use lib.ListN.{length-map}
 use lib.Bits.{bit_xor, xor_zero_r, xor_mod, xor_lt}
-use Rattle.galois.specs.Field.{mul, inv, div}
+use Rattle.galois.specs.Field.{mul, inv}
 use Rattle.galois.proofs.Law.{mul_comm, one_mul_byte}
 use Rattle.galois.proofs.Steps.{mul_byte, mul_low_r}
-use Rattle.codes.specs.Over.{over, except}
-use Rattle.codes.specs.Code.{Table, applied, symbol, lagrange, polynomial, FirstLaw, SecondLaw, WeightLaw, scaled_weight, value, Interpolates, PolynomialLaw, plain_scale}
+use Rattle.codes.specs.Code.{applied, symbol, lagrange, polynomial, FirstLaw, SecondLaw, WeightLaw, scaled_weight, value, Interpolates, PolynomialLaw, plain_scale}
 use Rattle.codes.proofs.Ring as ring
 use Rattle.codes.proofs.Bytes.{bytes, inverse, Deg, Scaled, unit_inv, second, meets}
 

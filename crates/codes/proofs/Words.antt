@@ -1,13 +1,13 @@
 -- Codewords of shares.
-use Rattle.std.proofs.Common.{◌≡◌, ℕ, zero, suc, ◌+◌, ◌*◌, ◌%◌, ◌<◌, ◌≤◌, List, length, get_or, take, sym, refl, ap, ◌∙◌, subst, mul-le-mul_right, mod-lt, arith, lit<}
+use Rattle.std.proofs.Common.{◌≡◌, ℕ, zero, suc, ◌+◌, ◌*◌, ◌%◌, ◌<◌, ◌≤◌, List, length, get_or, take, sym, ap, ◌∙◌, subst, mul-le-mul_right, mod-lt, arith, lit<}
 use lib.Bits.{bit_xor, xor_lt}
 use Rattle.std.proofs.lemmas.List.{length-take-le}
-use Rattle.octets.specs.Shares.{share, byte_of}
+use Rattle.octets.specs.Shares.{byte_of}
 use Rattle.octets.proofs.Shares.{bytes_from_share, same_from_bytes, buffer_length, buffer_byte, buffer_from_bytes, buffer_below, byte_take}
 use Rattle.galois.specs.Field.{mul}
 use Rattle.galois.proofs.Steps.{mul_byte, mul_low_r}
 use Rattle.codes.specs.Over.{over}
-use Rattle.codes.specs.Code.{Table, Places, FirstLaw, SecondLaw, Meets, applied, symbol}
+use Rattle.codes.specs.Code.{Table, Places, FirstLaw, SecondLaw, applied, symbol}
 use Rattle.codes.specs.Words.{at, codeword, IsWord, Through, WordsLaw}
 use Rattle.codes.proofs.Ring as ring
 

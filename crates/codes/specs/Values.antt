@@ -1,5 +1,5 @@
 -- Worked values of the definitions, in shares of one byte.
-use Rattle.std.specs.Prelude.{◌≡◌, List, [], ◌∷◌}
+use Rattle.std.specs.Prelude.{◌≡◌, [], ◌∷◌}
 use Rattle.codes.specs.Code.{polynomial, cauchy}
 use Rattle.codes.specs.Words.{codeword, Through}
 

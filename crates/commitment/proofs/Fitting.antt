@@ -1,5 +1,5 @@
 -- Roots of a block's length have a data root.
-use Rattle.std.proofs.Common.{◌≡◌, ℕ, suc, ◌+◌, ◌*◌, ◌^◌, true, ap, ◌∙◌, pow-suc, add-one, arith}
+use Rattle.std.proofs.Common.{◌≡◌, ℕ, ◌+◌, ◌*◌, ◌^◌, true, ap, ◌∙◌, pow-suc, add-one, arith}
 use Rattle.std.proofs.lemmas.Bool.{and_from, le-leb, eq-eqb}
 use Rattle.hash.specs.Digests.{digest_len}
 use Rattle.erasure.specs.Limits.{ok_width}

@@ -1,5 +1,5 @@
 -- Trees over values.
-use Rattle.std.proofs.Common.{◌≡◌, ℕ, zero, suc, ◌*◌, ◌^◌, ◌<◌, ◌≤◌, Bool, true, cond, leb, List, length, refl, ap, ◌∙◌, arith}
+use Rattle.std.proofs.Common.{◌≡◌, ℕ, zero, suc, ◌*◌, ◌^◌, ◌<◌, ◌≤◌, true, leb, List, length, ap, ◌∙◌, arith}
 use Rattle.std.proofs.lemmas.Bool.{le-leb, eq-eqb, and_from, cond-true}
 use Rattle.hash.specs.Digests.{digest_len}
 use Rattle.layout.specs.Answers.{grown, is_tree, depth_limit, leaf_count, root_fits, cut_root}
@@ -8,11 +8,7 @@ use Rattle.merkle.specs.Tree.{node, root}
 use Rattle.merkle.specs.Layout.{tree_layout, tree_len, root_of}
 use Rattle.merkle.proofs.Layouts.{layouts_stand}
 use Rattle.layout.proofs.Entries.{entries_at}
-use Rattle.merkle.proofs.Same.{layout_same, node_same}
-use Rattle.octets.proofs.Joins.{joined_same}
-use Rattle.std.specs.List.{range_with_len, flat_map}
-use Rattle.header.specs.Sizes.{cell_on}
-use Rattle.header.proofs.Numbers.{on_below}
+use Rattle.merkle.proofs.Same.{layout_same}
 use Rattle.commitment.specs.Roots.{line_leaf, square_roots}
 use Rattle.commitment.specs.Values.{value_leaf, value_tree, value_root}
 

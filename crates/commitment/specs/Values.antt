@@ -1,5 +1,5 @@
 -- Trees over values of one size that lie one after the other in a buffer.
-use Rattle.std.specs.Prelude.{ℕ, ◌*◌, ◌^◌, Bool, cond, ◌&&◌, List, length, ◌==◌, nat_le}
+use Rattle.std.specs.Prelude.{ℕ, ◌*◌, ◌^◌, Bool, ◌&&◌, List, ◌==◌, nat_le}
 use Rattle.octets.specs.Shares.{share}
 use Rattle.hash.specs.Digests.{parts_limit}
 use Rattle.layout.specs.Answers.{is_tree}

@@ -1,8 +1,8 @@
 -- A weight by its factors, and products factor by factor.
-use Rattle.std.proofs.Common.{◌≡◌, ℕ, ◌+◌, ◌*◌, ◌<◌, ◌≤◌, cond, eqb, ◌≢◌, List, length, sym, refl, ap, ◌∙◌, subst, ap₂, ⊎_elim, arith, lit<, eq-eqb, ne_eqb}
+use Rattle.std.proofs.Common.{◌≡◌, ℕ, ◌+◌, ◌*◌, ◌<◌, ◌≤◌, cond, ◌≢◌, sym, refl, ap, ◌∙◌, subst, ap₂, ⊎_elim, arith, lit<, eq-eqb, ne_eqb}
 use lib.Bits.{bit_xor, xor_lt}
 use Rattle.std.proofs.lemmas.Bool.{cases_eq}
-use Rattle.galois.specs.Field.{mul, inv, div}
+use Rattle.galois.specs.Field.{mul, inv}
 use Rattle.galois.proofs.Law as field
 use Rattle.codes.specs.Over.{over, except}
 use Rattle.codes.specs.Code.{Places, lagrange}

@@ -1,7 +1,7 @@
 -- A sum by coefficients, from their highest bit down.
-use Rattle.std.proofs.Common.{◌≡◌, ℕ, zero, suc, ◌+◌, ◌*◌, ◌/◌, ◌%◌, ◌^◌, ◌<◌, ◌≤◌, sym, refl, ap, ◌∙◌, subst, ap₂, mod-lt, mod-eq_of_lt, div-add-mod', zero-mul, div-one, arith, lit<}
+use Rattle.std.proofs.Common.{◌≡◌, ℕ, ◌+◌, ◌*◌, ◌/◌, ◌%◌, ◌^◌, ◌<◌, ◌≤◌, sym, ap, ◌∙◌, ap₂, mod-lt, mod-eq_of_lt, div-add-mod', div-one, arith, lit<}
 use lib.Bits.{bit_xor, xor_zero_r, xor_comm, xor_assoc, xor_shifted}
-use Rattle.std.proofs.lemmas.Nat.{shr-shr, shr_le, shr_below}
+use Rattle.std.proofs.lemmas.Nat.{shr-shr, shr_le}
 use Rattle.galois.specs.Field.{mul}
 use Rattle.galois.proofs.Steps.{times_x, mul_two, mul_xor_l}
 use Rattle.galois.proofs.Law as field

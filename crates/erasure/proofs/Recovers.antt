@@ -4,7 +4,7 @@ use Rattle.std.specs.List.{range_with_len}
 use Rattle.std.proofs.lemmas.List.FromFn.{length-range_with_len, get_or-range_with_len}
 use Rattle.std.proofs.lemmas.List.{ext_get_or}
 use Rattle.std.proofs.lemmas.Bool.{and_from, and_parts, eqb-true, le-leb, lt-ltb}
-use Rattle.octets.specs.Outcome.{Refused, plain}
+use Rattle.octets.specs.Outcome.{plain}
 use Rattle.octets.specs.Shares.{byte_of}
 use Rattle.octets.proofs.Shares.{share_from_bytes}
 use Rattle.codes.specs.Code.{Table, Weight, Places, FirstLaw, SecondLaw, WeightLaw, Meets, applied}

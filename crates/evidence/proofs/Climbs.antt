@@ -1,11 +1,11 @@
 -- The climb of an evidence, one tree after the other.
-use Rattle.std.proofs.Common.{◌≡◌, ℕ, ◌+◌, ◌*◌, ◌/◌, ◌%◌, ◌≤◌, cond, List, ◌∷◌, length, take, drop, sym, ap, ◌∙◌, arith, length-drop, length-take}
+use Rattle.std.proofs.Common.{◌≡◌, ℕ, ◌+◌, ◌*◌, ◌%◌, ◌≤◌, cond, List, ◌∷◌, length, take, drop, sym, ap, ◌∙◌, arith, length-drop}
 use Rattle.std.proofs.lemmas.List.{length-take-le}
 use Rattle.std.proofs.lemmas.Bool.{cond-true, and_from, le-leb, eq-eqb}
 use Rattle.climbs.specs.Answers.{climb_leaf_fits}
 use Rattle.hash.specs.Digests.{digest_len, parts_limit}
 use Rattle.merkle.specs.Tree.{sides}
-use Rattle.merkle.specs.Climb.{Node, plain_rule, slots, rungs, alone, levels, from_node, from_leaf, through_two, climb, climb_leaf}
+use Rattle.merkle.specs.Climb.{plain_rule, rungs, alone, levels, from_leaf, through_two, climb, climb_leaf}
 use Rattle.merkle.proofs.Climbing.{climb_append}
 use Rattle.merkle.proofs.Steps.{slots_take}
 

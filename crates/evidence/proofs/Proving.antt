@@ -13,7 +13,7 @@ use Rattle.erasure.specs.Limits.{ok_width}
 use Rattle.header.specs.declared.cell.Axis.{Axis}
 use Rattle.header.specs.Fields.{Fields}
 use Rattle.header.specs.Lines.{line_of, place_on}
-use Rattle.header.specs.Sizes.{width, depth, square_len, path_len, has_cell, line_number, cell_number}
+use Rattle.header.specs.Sizes.{width, depth, square_len, path_len, line_number, cell_number}
 use Rattle.header.proofs.Measures.{depth_power, depth_above}
 use Rattle.header.proofs.Numbers.{line_in, place_in, cell_on_lem}
 use Rattle.commitment.specs.Values.{value_leaf, value_tree, value_root}

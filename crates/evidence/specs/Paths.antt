@@ -1,5 +1,5 @@
 -- The evidence that a square and its roots give for a cell.
-use Rattle.std.specs.Prelude.{◌≡◌, ℕ, ◌+◌, Bool, true, cond, not, ◌&&◌, List, ◌++◌, length, Ok, Err, Result, ◌==◌}
+use Rattle.std.specs.Prelude.{◌≡◌, ℕ, ◌+◌, Bool, true, cond, not, ◌&&◌, List, ◌++◌, Ok, Err, Result, ◌==◌}
 use Rattle.octets.specs.Outcome.{Refused, plain}
 use Rattle.octets.specs.Shares.{share}
 use Rattle.hash.specs.Digests.{digest_len}

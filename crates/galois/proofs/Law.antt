@@ -1,5 +1,5 @@
 -- The field's laws: those of the product are computed at the powers of x, and follow elsewhere since it is linear.
-use Rattle.std.proofs.Common.{◌≡◌, ℕ, zero, suc, ◌^◌, ◌<◌, Bool, eqb, sym, refl, ap, ◌∙◌, ap₂, le_of_suc-le-suc, not-suc-le-zero, eqb→eq}
+use Rattle.std.proofs.Common.{◌≡◌, ℕ, zero, suc, ◌^◌, ◌<◌, Bool, eqb, sym, refl, ap, ◌∙◌, le_of_suc-le-suc, not-suc-le-zero, eqb→eq}
 use Rattle.galois.specs.Field.{polynomial_product, reduced, mul, squares, inv, div}
 use Rattle.galois.specs.Laws.{FieldLaws}
 use Rattle.galois.proofs.Upto.{upto, at}

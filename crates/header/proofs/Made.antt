@@ -1,5 +1,5 @@
 -- A header that was made has an allowed k and an allowed share size, and holds what it was made of.
-use Rattle.std.proofs.Common.{◌≡◌, ℕ, Bool, true, false, cond, not, eqb, List, length, Ok, Err, Result, sym, refl, ap, ◌∙◌, arith}
+use Rattle.std.proofs.Common.{◌≡◌, ℕ, Bool, true, false, cond, not, eqb, length, Ok, Err, Result, refl, arith}
 use Rattle.octets.specs.Outcome.{Refused, plain}
 use Rattle.hash.specs.Digests.{digest_len}
 use Rattle.erasure.specs.Limits.{ok_width, ok_size}

@@ -1,5 +1,5 @@
 -- What a header holds. All that is said of blocks is said of these fields.
-use Rattle.std.specs.Prelude.{ℕ, Bool, cond, not, List, length, Ok, Err, Result, ◌==◌}
+use Rattle.std.specs.Prelude.{ℕ, cond, not, List, length, Ok, Err, Result, ◌==◌}
 use Rattle.octets.specs.Outcome.{Refused, plain}
 use Rattle.hash.specs.Digests.{digest_len}
 use Rattle.erasure.specs.Limits.{ok_width, ok_size}

@@ -1,10 +1,10 @@
 -- The parts of an image.
-use Rattle.std.proofs.Common.{◌≡◌, ℕ, ◌+◌, ◌*◌, ◌^◌, ◌<◌, ◌≤◌, Bool, true, cond, List, [], ◌++◌, length, take, drop, sym, refl, ap, ◌∙◌, arith}
+use Rattle.std.proofs.Common.{◌≡◌, ℕ, ◌+◌, ◌≤◌, true, List, ◌++◌, length, take, sym, ap, ◌∙◌, arith}
 use Rattle.std.specs.List.{range_with_len, flat_map}
 use Rattle.std.proofs.lemmas.List.{append_assoc, append-nil}
-use Rattle.octets.specs.Splice.{over, spliced}
+use Rattle.octets.specs.Splice.{over}
 use Rattle.octets.proofs.Joins.{joined_last}
-use Rattle.octets.proofs.Splices.{take_over, spliced_in}
+use Rattle.octets.proofs.Splices.{take_over}
 use Rattle.hash.specs.Digests.{digest_len}
 use Rattle.merkle.proofs.Layouts.{layouts_stand}
 use Rattle.erasure.specs.Limits.{ok_width}

@@ -1,7 +1,7 @@
 -- The steps of the loops.
-use Rattle.std.proofs.Common.{◌≡◌, ℕ, zero, suc, ◌+◌, ◌-◌, ◌<◌, ◌≤◌, List, [], ◌∷◌, ◌++◌, length, get_or, take, set, sym, refl, ap, ◌∙◌, add-one, arith, length-set, length-take-le, get_or-take}
+use Rattle.std.proofs.Common.{◌≡◌, ℕ, suc, ◌+◌, ◌-◌, ◌<◌, ◌≤◌, List, [], ◌∷◌, ◌++◌, length, get_or, take, set, sym, refl, ap, ◌∙◌, add-one, arith, get_or-take}
 use native.Mathlib.Nat.{}
-use Rattle.std.proofs.lemmas.List.{take_more, take_more_set, take_all, take-set-le}
+use Rattle.std.proofs.lemmas.List.{take_more, take_more_set}
 use Rattle.sha256.specs.Compression.{round_of, constants, up_to, next_word, extended}
 
 pub up_to_more : (ws v t u : List ℕ) (i : ℕ) → t ≡ up_to ws v i → u ≡ round_of t (get_or constants i 0) (get_or ws i 0) → u ≡ up_to ws v (i + 1)

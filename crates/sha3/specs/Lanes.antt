@@ -1,6 +1,5 @@
 -- The code's rows as lists of lanes, and the steps on one row.
 use Rattle.std.specs.Prelude.{ℕ, ◌+◌, ◌*◌, List, [], ◌∷◌, bit_and, bit_xor}
-use Rattle.std.specs.Int.Bits.{bit_or}
 use Rattle.sha3.specs.declared.permutation.Row.{Row}
 use Rattle.sha3.specs.declared.permutation.State.{State}
 use Rattle.sha3.specs.Keccak.{rotl, flip}

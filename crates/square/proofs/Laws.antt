@@ -1,8 +1,7 @@
 -- What holds of extended data.
-use Rattle.std.proofs.Common.{◌≡◌, ℕ, ◌+◌, ◌*◌, ◌^◌, ◌<◌, ◌≤◌, true, List, length, get_or, sym, refl, ap, ◌∙◌, arith}
+use Rattle.std.proofs.Common.{◌≡◌, ℕ, ◌+◌, ◌*◌, ◌<◌, ◌≤◌, true, List, length, get_or, sym, refl, ap, ◌∙◌, arith}
 use Rattle.octets.specs.Shares.{share}
 use Rattle.hash.specs.Digests.{digest_len}
-use Rattle.merkle.specs.Tree.{root}
 use Rattle.merkle.specs.Climb.{plain_rule, join_of, leaf_of, slot}
 use Rattle.merkle.proofs.Same.{node_same}
 use Rattle.codes.specs.Code.{Table, FirstLaw, SecondLaw}

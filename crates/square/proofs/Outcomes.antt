@@ -1,5 +1,5 @@
 -- What extending and committing answer where nothing is to be refused.
-use Rattle.std.proofs.Common.{◌≡◌, ℕ, ◌*◌, Bool, true, cond, not, eqb, List, length, Ok, Err, Result, sym, refl, ap, ◌∙◌}
+use Rattle.std.proofs.Common.{◌≡◌, ℕ, Bool, true, cond, not, eqb, List, length, Ok, Err, Result, ap, ◌∙◌}
 use Rattle.std.proofs.lemmas.Bool.{and_from, and_parts}
 use Rattle.octets.specs.Outcome.{Refused, plain}
 use Rattle.codes.specs.Code.{Table}

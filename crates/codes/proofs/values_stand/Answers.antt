@@ -1,4 +1,4 @@
-use Rattle.std.proofs.Common.{◌≡◌, ℕ, suc, ◌<◌, [], ◌∷◌, refl, le_of_suc-le-suc, not-suc-le-zero}
+use Rattle.std.proofs.Common.{ℕ, ◌<◌, refl, le_of_suc-le-suc, not-suc-le-zero}
 use Rattle.octets.specs.Shares.{share, buffer}
 use Rattle.galois.specs.Field.{polynomial_product, reduced, mul, squares, inv}
 use Rattle.codes.specs.Over.{over}

@@ -1,6 +1,6 @@
-use Rattle.std.proofs.Common.{◌≡◌, ℕ, ◌+◌, ◌-◌, ◌*◌, ◌^◌, ◌<◌, ◌≤◌, List, sym, ap, ◌∙◌, subst, ap₂, arith}
+use Rattle.std.proofs.Common.{◌≡◌, ℕ, ◌+◌, ◌-◌, ◌<◌, List, sym, ap, ◌∙◌, ap₂, arith}
 use Rattle.merkle.specs.Tree.{node, root}
-use Rattle.merkle.specs.Climb.{Node, join_of, plain_rule, slot}
+use Rattle.merkle.specs.Climb.{Node, join_of, plain_rule}
 use Rattle.merkle.proofs.Climbing.{node_start, node_more}
 use Rattle.layout.proofs.Entries.{entries_more}
 use Rattle.commitment.specs.Roots.{line_leaf}

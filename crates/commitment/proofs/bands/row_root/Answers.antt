@@ -1,4 +1,4 @@
-use Rattle.std.proofs.Common.{◌≡◌, ℕ, ◌+◌, ap, ◌∙◌, arith}
+use Rattle.std.proofs.Common.{ℕ, ◌+◌, ap, ◌∙◌, arith}
 use Rattle.merkle.specs.Climb.{Node, slot}
 use Rattle.merkle.proofs.Steps.{slot_length}
 use Rattle.commitment.proofs.Trees.{grown_over, root_cut}

@@ -1,4 +1,4 @@
-use Rattle.std.proofs.Common.{◌≡◌, ◌+◌, eqb, length, sym, ap, ◌∙◌, arith}
+use Rattle.std.proofs.Common.{◌+◌, eqb, length, sym, ap, ◌∙◌}
 use Rattle.std.proofs.lemmas.Bool.{cond-true, and_parts, eqb-true}
 use Rattle.header.specs.Fields.{fields_of}
 use Rattle.header.specs.Sizes.{square_len, roots_len}

@@ -1,9 +1,8 @@
-use Rattle.std.proofs.Common.{◌≡◌, ◌+◌, ◌*◌, ◌<◌, refl, ap, ◌∙◌, arith}
+use Rattle.std.proofs.Common.{◌+◌, ◌*◌, ◌<◌, refl, ap, ◌∙◌, arith}
 use Rattle.std.proofs.lemmas.Nat.{mul-le}
 use Rattle.octets.specs.Splice.{over}
 use Rattle.octets.proofs.Shares.{share_end}
 use Rattle.hash.specs.Digests.{digest_len}
-use Rattle.header.specs.Sizes.{cell_on}
 use Rattle.header.proofs.Numbers.{on_below}
 use Rattle.commitment.specs.Roots.{line_leaf}
 use Rattle.commitment.specs.Values.{value_leaf}

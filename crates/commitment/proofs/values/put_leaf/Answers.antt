@@ -1,7 +1,7 @@
-use Rattle.std.proofs.Common.{◌≡◌, ◌+◌, ◌-◌, ◌*◌, ◌≤◌, List, length, take, drop, refl, ap, ◌∙◌, arith, length-drop, length-take}
+use Rattle.std.proofs.Common.{◌≡◌, ◌+◌, ◌-◌, ◌*◌, ◌≤◌, length, take, drop, refl, ap, ◌∙◌, arith, length-drop, length-take}
 use Rattle.octets.specs.Shares.{share}
 use Rattle.octets.proofs.Shares.{share_read}
-use Rattle.hash.specs.Digests.{digest_len, parts_limit}
+use Rattle.hash.specs.Digests.{parts_limit}
 use Rattle.hash.proofs.Digested.{out_ok}
 use Rattle.merkle.specs.Climb.{plain_rule, leaf_of}
 use Rattle.layout.proofs.Rows.{written_entry}

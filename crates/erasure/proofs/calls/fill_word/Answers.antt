@@ -1,9 +1,8 @@
-use Rattle.std.proofs.Common.{◌≡◌, ℕ, ◌-◌, ◌*◌, ◌<◌, ◌≤◌, List, length, take, drop, replicate, refl, ap, ◌∙◌, arith}
+use Rattle.std.proofs.Common.{ℕ, ◌-◌, ◌*◌, ◌≤◌, List, length, take, drop, replicate, refl, ap, ◌∙◌, arith}
 use Rattle.octets.specs.Shares.{byte_of}
 use Rattle.codes.specs.Code.{Weight}
 use Rattle.codes.specs.Words.{at}
 use Rattle.codes.proofs.Words.{applied_row}
-use Rattle.erasure.specs.Weights.{weighed}
 use Rattle.erasure.proofs.Bounds.{width_most}
 use Rattle.erasure.proofs.Rises.{rising_places}
 use Rattle.erasure.proofs.Tables.{room, room_long, weighable_from, weighed_at}

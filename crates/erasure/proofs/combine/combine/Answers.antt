@@ -1,4 +1,4 @@
-use Rattle.std.proofs.Common.{◌≡◌, ℕ, ◌+◌, ◌-◌, ◌*◌, ◌/◌, ◌%◌, ◌^◌, ◌<◌, ◌≢◌, List, length, get_or, sym, ap, ◌∙◌, subst, ap₂, arith, get_or-set_other, get_or-set_same, below_more}
+use Rattle.std.proofs.Common.{◌≡◌, ℕ, ◌+◌, ◌-◌, ◌/◌, ◌%◌, ◌^◌, ◌<◌, ◌≢◌, List, length, get_or, sym, ap, ◌∙◌, arith, get_or-set_other, get_or-set_same, below_more}
 use lib.Bits.{bit_xor}
 use Rattle.std.proofs.lemmas.List.{get_or-map}
 use Rattle.octets.specs.Shares.{byte_of}

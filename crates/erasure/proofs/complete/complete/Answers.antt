@@ -1,4 +1,4 @@
-use Rattle.std.proofs.Common.{◌≡◌, ℕ, ◌-◌, ◌*◌, ◌<◌, ◌≤◌, cond, List, length, take, sym, ap, ◌∙◌, subst, arith}
+use Rattle.std.proofs.Common.{◌≡◌, ℕ, ◌*◌, ◌<◌, ◌≤◌, cond, List, length, take, sym, ap, ◌∙◌, subst, arith}
 use Rattle.codes.specs.Words.{codeword}
 use Rattle.erasure.specs.Limits.{ok_width}
 use Rattle.erasure.proofs.Bounds.{width_most}

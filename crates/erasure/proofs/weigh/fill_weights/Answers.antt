@@ -1,4 +1,4 @@
-use Rattle.std.proofs.Common.{◌≡◌, ℕ, ◌*◌, ◌<◌, List, length, ap, ◌∙◌, arith}
+use Rattle.std.proofs.Common.{ℕ, List, length, ap, ◌∙◌, arith}
 use Rattle.galois.specs.Field.{mul}
 use Rattle.codes.specs.Words.{at}
 use Rattle.erasure.specs.Weights.{numerator, weight_by}

@@ -1,4 +1,3 @@
-use Rattle.std.proofs.Common.{arith}
 use Rattle.erasure.proofs.Factors.{byte_xor}
 use Rattle.erasure.proofs.weigh.weight.Goals as goal
 

@@ -1,5 +1,4 @@
-use Rattle.std.proofs.Common.{◌≡◌, ℕ, ◌+◌, ◌-◌, ◌*◌, ◌<◌, List, length, get_or, ap, ◌∙◌}
-use Rattle.octets.specs.Shares.{byte_of}
+use Rattle.std.proofs.Common.{◌≡◌, ℕ, ◌+◌, ◌-◌, ◌*◌, List, length, ap, ◌∙◌}
 use Rattle.octets.proofs.Shares.{share_end, share_read, share_length, put_more}
 use Rattle.galois.specs.Field.{mul}
 use Rattle.codes.specs.Words.{at}

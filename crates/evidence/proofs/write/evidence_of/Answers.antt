@@ -1,4 +1,4 @@
-use Rattle.std.proofs.Common.{◌≡◌, ◌&&◌, eqb, ltb, length, sym, ap, ◌∙◌, rules}
+use Rattle.std.proofs.Common.{◌&&◌, eqb, ltb, length, sym, ap, ◌∙◌, rules}
 use Rattle.std.proofs.lemmas.Bool.{and_parts, eqb-true, ltb-true}
 use Rattle.header.specs.Fields.{fields_of}
 use Rattle.header.specs.Sizes.{width, square_len, roots_len, path_len}

@@ -1,9 +1,7 @@
-use Rattle.std.proofs.Common.{◌≡◌, ◌+◌, ◌*◌, ◌≤◌, ◌++◌, length, take, sym, ap, ◌∙◌, arith}
+use Rattle.std.proofs.Common.{◌≡◌, ◌+◌, ◌*◌, ◌++◌, length, take, sym, ap, ◌∙◌, arith}
 use Rattle.std.proofs.lemmas.List.{take_all}
-use Rattle.octets.specs.Splice.{over}
 use Rattle.octets.proofs.Splices.{spliced_in, take_over}
 use Rattle.header.specs.Fields.{fields_of}
-use Rattle.header.specs.Sizes.{width}
 use Rattle.header.proofs.Measures.{measured, square_most}
 use Rattle.image.specs.Image.{row_trees, data_tree}
 use Rattle.image.proofs.Trees.{data_long}

@@ -1,4 +1,4 @@
-use Rattle.std.proofs.Common.{◌≡◌, ◌+◌, ◌*◌, ◌≤◌, ◌++◌, length, take, sym, ap, ◌∙◌, add-mul, one-mul, zero-mul, arith}
+use Rattle.std.proofs.Common.{◌≡◌, ◌+◌, ◌*◌, ◌++◌, take, sym, ap, ◌∙◌, add-mul, one-mul, zero-mul, arith}
 use Rattle.octets.proofs.Shares.{share_inside}
 use Rattle.header.specs.Fields.{fields_of}
 use Rattle.image.specs.Image.{row_trees}

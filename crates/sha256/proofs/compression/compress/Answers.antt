@@ -1,4 +1,4 @@
-use Rattle.std.proofs.Common.{◌≡◌, ap, ◌∙◌}
+use Rattle.std.proofs.Common.{ap, ◌∙◌}
 use Rattle.sha256.specs.Compression.{compressed, sums, up_to}
 use Rattle.sha256.specs.Vars.{vars}
 use Rattle.sha256.proofs.compression.compress.Goals as goal

@@ -1,4 +1,4 @@
-use Rattle.std.proofs.Common.{◌≡◌, ◌+◌, ◌*◌, get_or, take, refl, ap, ◌∙◌, arith}
+use Rattle.std.proofs.Common.{◌+◌, ◌*◌, get_or, take, refl, ap, ◌∙◌, arith}
 use Rattle.octets.proofs.Joins.{joined_put, joined_all}
 use Rattle.sha256.specs.Message.{word_bytes}
 use Rattle.sha256.proofs.digest.put_words.Goals as goal

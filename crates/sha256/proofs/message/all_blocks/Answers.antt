@@ -1,4 +1,4 @@
-use Rattle.std.proofs.Common.{◌≡◌, ◌++◌, ap, ◌∙◌, arith}
+use Rattle.std.proofs.Common.{◌++◌, ap, ◌∙◌, arith}
 use Rattle.sha256.specs.Message.{value_after}
 use Rattle.sha256.specs.Vars.{vars}
 use Rattle.sha256.proofs.Messages.{value_none, value_more}

@@ -1,4 +1,4 @@
-use Rattle.std.proofs.Common.{◌≡◌, ◌+◌, ◌*◌, get_or, take, refl, ap, ◌∙◌, arith}
+use Rattle.std.proofs.Common.{◌+◌, ◌*◌, get_or, take, refl, ap, ◌∙◌, arith}
 use Rattle.octets.proofs.Joins.{joined_put, joined_all}
 use Rattle.sha3.specs.Sponge.{lane_bytes}
 use Rattle.sha3.proofs.digest.put_lanes.Goals as goal

@@ -1,4 +1,4 @@
-use Rattle.std.proofs.Common.{◌≡◌, ◌++◌, ap, ◌∙◌, arith}
+use Rattle.std.proofs.Common.{◌++◌, ap, ◌∙◌, arith}
 use Rattle.sha3.specs.Lanes.{lanes}
 use Rattle.sha3.specs.Sponge.{state_after}
 use Rattle.sha3.proofs.Blocks.{state_none, state_more}

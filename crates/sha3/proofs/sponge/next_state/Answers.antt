@@ -1,7 +1,6 @@
 use Rattle.std.proofs.Common.{◌++◌, ap, ◌∙◌}
 use Rattle.sha3.specs.Keccak.{permuted}
 use Rattle.sha3.specs.Lanes.{lanes}
-use Rattle.sha3.specs.Sponge.{absorbed}
 use Rattle.sha3.proofs.Blocks.{absorbed_next}
 use Rattle.sha3.proofs.sponge.next_state.Goals as goal
 

@@ -1,13 +1,13 @@
-use Rattle.std.proofs.Common.{◌≡◌, ℕ, true, eqb, List, length, replicate, sym, refl, ap, ◌∙◌, arith, rules}
+use Rattle.std.proofs.Common.{◌≡◌, true, eqb, length, replicate, sym, ap, ◌∙◌, arith, rules}
 use Rattle.std.proofs.lemmas.Bool.{and_parts, cond-true}
 use Rattle.octets.specs.Written.{written}
-use Rattle.header.specs.Fields.{Fields, fields_of}
+use Rattle.header.specs.Fields.{fields_of}
 use Rattle.header.specs.Sizes.{data_len}
 use Rattle.header.proofs.Made.{made}
 use Rattle.extension.specs.Square.{extension, fill_fits}
 use Rattle.commitment.specs.Roots.{roots_of, square_fits}
-use Rattle.commitment.specs.Commit.{blank, committed, commit_outcome}
-use Rattle.square.specs.Extend.{extend_fits, extend_outcome}
+use Rattle.commitment.specs.Commit.{blank, commit_outcome}
+use Rattle.square.specs.Extend.{extend_fits}
 use Rattle.square.proofs.Laws.{stand}
 use Rattle.square.proofs.Outcomes.{extend_granted, commit_granted, fill_granted}
 use Rattle.square.proofs.extend.extend.Goals as goal

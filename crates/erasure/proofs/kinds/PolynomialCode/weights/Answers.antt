@@ -1,8 +1,8 @@
-use Rattle.std.proofs.Common.{◌≡◌, ℕ, ◌-◌, ◌*◌, ◌<◌, ◌≤◌, List, length, get_or, take, drop, replicate, sym, refl, ap, ◌∙◌, ap₂, arith, lit<, length-drop, length-take}
+use Rattle.std.proofs.Common.{◌≡◌, ℕ, ◌-◌, ◌*◌, ◌<◌, ◌≤◌, List, length, get_or, take, drop, replicate, sym, ap, ◌∙◌, ap₂, arith, lit<, length-drop, length-take}
 use Rattle.std.proofs.lemmas.List.{get_or-take, get_or-replicate}
 use Rattle.galois.specs.Field.{mul, inv}
 use Rattle.galois.proofs.Law.{mul_inv}
-use Rattle.codes.specs.Code.{Places, lagrange, plain_scale, scaled_weight}
+use Rattle.codes.specs.Code.{lagrange, plain_scale, scaled_weight}
 use Rattle.codes.specs.Words.{at}
 use Rattle.erasure.proofs.Tables.{Weighable, weighable_parts, weighed_from}
 use Rattle.erasure.proofs.kinds.PolynomialCode.weights.Goals as goal
