@@ -1,5 +1,5 @@
 -- The first two records of a file.
-use Rattle.std.proofs.Common.{◌≡◌, ℕ, ◌+◌, ◌-◌, ◌*◌, ◌<◌, ◌≤◌, Bool, true, false, cond, not, ◌&&◌, eqb, List, length, get_or, take, drop, Ok, Err, Result, sym, refl, ap, ◌∙◌, subst, arith, length-drop, length-take-le, drop-drop, Bor}
+use Rattle.std.proofs.Common.{◌≡◌, ℕ, ◌+◌, ◌*◌, ◌≤◌, Bool, true, false, cond, not, ◌&&◌, eqb, List, length, get_or, take, drop, Ok, Err, Result, sym, refl, ap, ◌∙◌, arith, length-drop, length-take-le, drop-drop, Bor}
 use Rattle.std.proofs.lemmas.Bool.{eqb-true}
 use Rattle.std.proofs.lemmas.Bool.Decides.{nat_tests}
 use Rattle.octets.specs.Outcome.{Refused, plain}
@@ -12,9 +12,9 @@ use Rattle.wire.specs.declared.record.Record.{Record}
 use Rattle.wire.specs.declared.record.Record.TheVariants.{Header, Roots, Group, Share, GroupEnd, Claim, Witness}
 use Rattle.wire.specs.Values.{Rec, header, roots}
 use Rattle.wire.specs.Parts.{value_of}
-use Rattle.wire.specs.Reading.{is_due, kind_in, body_len, body_for, record_in, in_range, reads_at, header_in}
+use Rattle.wire.specs.Reading.{is_due, kind_in, body_len, body_for, record_in, in_range, reads_at}
 use Rattle.wire.specs.Writing.{first_of}
-use Rattle.wire.proofs.Trips.{Cut, cut_at, behind_is}
+use Rattle.wire.proofs.Trips.{cut_at, behind_is}
 use Rattle.blockfile.specs.File.{HeadIs, RootsAre, roots_place, groups_place}
 use Rattle.blockfile.specs.Walk.{no_block}
 

@@ -1,9 +1,8 @@
 -- The index says of each cell what the shares so far say.
-use Rattle.std.proofs.Common.{◌≡◌, ℕ, ◌+◌, ◌-◌, ◌*◌, ◌/◌, ◌%◌, ◌<◌, ◌≤◌, Bool, true, false, cond, not, ◌&&◌, eqb, ltb, ◌≢◌, ◌⊎◌, List, [], ◌∷◌, length, get_or, take, drop, set, is_some, Some, None, Ok, Err, Option, Result, sym, refl, ap, ◌∙◌, subst, inl, inr, arith, length-set, get_or-set_other, get_or-set_same, drop-drop}
+use Rattle.std.proofs.Common.{◌≡◌, ℕ, ◌+◌, ◌*◌, ◌/◌, ◌%◌, ◌<◌, ◌≤◌, Bool, true, false, cond, not, ◌&&◌, eqb, ◌≢◌, List, ◌∷◌, length, get_or, take, drop, set, is_some, Some, None, sym, refl, ap, ◌∙◌, subst, inl, inr, arith, length-set, get_or-set_other, get_or-set_same, drop-drop}
 use Rattle.std.proofs.lemmas.Nat.{div-mul-add, mod-mul-add}
-use Rattle.std.proofs.lemmas.Bool.{cond-true, cond-false, eqb-true, ne_eqb, cases_Bool, cases_eq}
+use Rattle.std.proofs.lemmas.Bool.{cond-true, cond-false, ne_eqb, cases_Bool, cases_eq}
 use Rattle.std.proofs.lemmas.Bool.Decides.{nat_tests}
-use Rattle.octets.specs.Outcome.{Refused}
 use Rattle.erasure.specs.Limits.{ok_width}
 use Rattle.header.specs.declared.cell.Axis.{Axis}
 use Rattle.header.specs.declared.cell.Axis.TheVariants.{Row, Column}
@@ -12,10 +11,8 @@ use Rattle.header.specs.Lines.{row_at, col_at}
 use Rattle.header.specs.Sizes.{width, has_cell, cell_number, head_len, path_len, share_body}
 use Rattle.evidence.specs.Evidence.{Evidence}
 use Rattle.blockfile.specs.declared.index.Index.{Index}
-use Rattle.blockfile.specs.declared.point.Point.{Point}
-use Rattle.blockfile.specs.declared.point.Point.TheVariants.{Between, Inside}
 use Rattle.blockfile.specs.Index.{indexed, evidence_by, evidence_in, Within}
-use Rattle.blockfile.specs.Steps.{marked, is_column, LineLow}
+use Rattle.blockfile.specs.Steps.{marked, is_column}
 use Rattle.blockfile.specs.Walk.{Entry, entry_at, shown_in}
 use Rattle.blockfile.proofs.Cells.{row_low, col_low, number_low}
 use Rattle.blockfile.proofs.Shares.{Parts}

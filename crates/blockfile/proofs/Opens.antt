@@ -1,10 +1,9 @@
 -- From the records of a file to the block that it is.
-use Rattle.std.proofs.Common.{◌≡◌, ℕ, ◌+◌, ◌-◌, ◌<◌, ◌≤◌, Bool, true, false, cond, ltb, List, [], length, drop, Ok, Err, Result, sym, refl, ap, ◌∙◌, subst, arith, length-drop}
+use Rattle.std.proofs.Common.{◌≡◌, ℕ, ◌-◌, ◌<◌, ◌≤◌, List, [], length, drop, Ok, Err, Result, sym, refl, ap, ◌∙◌, subst, arith, length-drop}
 use Rattle.std.proofs.lemmas.Bool.{lt-ltb, le-ltb, cond-true, cond-false}
 use Rattle.octets.specs.Outcome.{Refused, plain, outcome}
-use Rattle.header.specs.Fields.{Fields, fields_of}
+use Rattle.header.specs.Fields.{Fields}
 use Rattle.wire.specs.declared.due.Due.TheVariants as due
-use Rattle.wire.specs.Values.{header, roots}
 use Rattle.wire.specs.Reading.{reads_at}
 use Rattle.blockfile.specs.declared.file.BlockFile.{BlockFile}
 use Rattle.blockfile.specs.declared.index.Index.{Index}

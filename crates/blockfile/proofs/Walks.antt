@@ -1,15 +1,15 @@
 -- The walk over a file, with the index in the place of the list of shares.
-use Rattle.std.proofs.Common.{◌≡◌, ℕ, zero, suc, ◌+◌, ◌-◌, ◌<◌, ◌≤◌, Bool, true, false, cond, not, ◌&&◌, eqb, ltb, ◌⊎◌, List, [], ◌∷◌, length, get_or, drop, replicate, is_some, Some, None, Ok, Err, Option, Result, sym, refl, ap, ◌∙◌, subst, inl, inr, arith, length-drop, drop-drop}
+use Rattle.std.proofs.Common.{◌≡◌, ℕ, suc, ◌+◌, ◌-◌, ◌<◌, ◌≤◌, Bool, true, false, cond, not, eqb, ltb, List, [], ◌∷◌, length, get_or, drop, replicate, is_some, None, Ok, Err, Option, Result, sym, refl, ap, ◌∙◌, subst, inl, inr, arith, length-drop, drop-drop}
 use lib.ListN.{length-replicate, get_or-replicate}
 use Rattle.std.proofs.lemmas.List.{get_or_past}
 use Rattle.std.proofs.lemmas.Bool.{cond-true, cond-false, cases_Bool, ltb-true, ltb-false}
-use Rattle.octets.specs.Outcome.{Refused, plain, outcome}
+use Rattle.octets.specs.Outcome.{Refused, outcome}
 use Rattle.erasure.specs.Limits.{ok_width}
 use Rattle.header.specs.declared.cell.Axis.{Axis}
 use Rattle.header.specs.Fields.{Fields}
 use Rattle.header.specs.Lines.{row_at, col_at}
 use Rattle.header.specs.Sizes.{width, head_len, cell_number, has_cell}
-use Rattle.evidence.specs.Evidence.{Evidence, axis_by}
+use Rattle.evidence.specs.Evidence.{Evidence}
 use Rattle.wire.specs.Refusals.{refused_at}
 use Rattle.wire.specs.Values.{Rec, header, roots, group, share, end, claim, witness}
 use Rattle.wire.specs.Reading.{reads_at, kind_in, body_for}
@@ -19,10 +19,10 @@ use Rattle.blockfile.specs.declared.point.Point.{Point}
 use Rattle.blockfile.specs.declared.point.Point.TheVariants.{Between, Inside}
 use Rattle.blockfile.specs.declared.refusal.FileRefusal.{FileRefusal}
 use Rattle.blockfile.specs.Index.{indexed, evidence_by}
-use Rattle.blockfile.specs.Opening.{closed, Says, Walks}
+use Rattle.blockfile.specs.Opening.{closed, Walks}
 use Rattle.blockfile.specs.Refusals.{told}
 use Rattle.blockfile.specs.Steps.{Held, held, marked, is_column, LineLow, noting, go}
-use Rattle.blockfile.specs.Walk.{Entry, Sofar, sofar, entry_at, shown_in, due_at, noted, step, finish_by, stepped, turned, walk}
+use Rattle.blockfile.specs.Walk.{Entry, Sofar, sofar, entry_at, shown_in, due_at, step, finish_by, stepped, turned, walk}
 use Rattle.blockfile.proofs.Cells.{row_low, col_low}
 use Rattle.blockfile.proofs.Kept.{Standing, seen_is, noted_more}
 use Rattle.blockfile.proofs.Shares.{share_read, group_read}

@@ -5,7 +5,7 @@ use Rattle.header.specs.Fields.{Fields, fields_of}
 use Rattle.header.specs.declared.header.Header.{Header}
 use Rattle.header.specs.Sizes.{head_len, header_body, roots_len}
 use Rattle.evidence.specs.Evidence.{Evidence}
-use Rattle.wire.specs.Values.{Rec, header, roots}
+use Rattle.wire.specs.Values.{header, roots}
 use Rattle.wire.specs.Reading.{reads_at}
 use Rattle.wire.specs.declared.due.Due.TheVariants as due
 use Rattle.blockfile.specs.declared.file.BlockFile.{BlockFile}

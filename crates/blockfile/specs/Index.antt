@@ -1,7 +1,6 @@
 -- The index of an opened file: for each cell the byte place of its share record, and by which axis it came. No share record begins at
 -- place 0, so 0 stands for none.
-use Rattle.std.specs.Prelude.{◌≡◌, ℕ, ◌+◌, ◌*◌, ◌<◌, ◌≤◌, Bool, true, false, cond, List, [], ◌∷◌, length, take, drop, Some, None, Option, ◌==◌, ◌≢◌, slice_index, slice_index_or}
-use Rattle.header.specs.declared.cell.Axis.{Axis}
+use Rattle.std.specs.Prelude.{ℕ, ◌+◌, ◌<◌, ◌≤◌, Bool, false, cond, List, take, drop, Some, None, Option, ◌==◌, ◌≢◌, slice_index, slice_index_or}
 use Rattle.header.specs.declared.cell.Axis.TheVariants.{Row, Column}
 use Rattle.header.specs.Fields.{Fields}
 use Rattle.header.specs.Sizes.{has_cell, cell_number, path_len, head_len, share_body}

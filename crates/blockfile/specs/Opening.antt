@@ -1,5 +1,5 @@
 -- What a walk and an opening leave.
-use Rattle.std.specs.Prelude.{◌≡◌, ℕ, cond, List, [], length, drop, Ok, Err, Result}
+use Rattle.std.specs.Prelude.{◌≡◌, ℕ, List, [], length, drop, Ok, Err, Result}
 use Rattle.octets.specs.Outcome.{Refused, outcome}
 use Rattle.header.specs.Fields.{Fields}
 use Rattle.blockfile.specs.declared.index.Index.{Index}

@@ -1,5 +1,4 @@
 -- The refusals of a block file, by number and values.
-use Rattle.std.specs.Prelude.{ℕ}
 use Rattle.octets.specs.Outcome.{Refused, plain}
 use Rattle.wire.specs.Refusals.{told_read, refused_at}
 use Rattle.blockfile.specs.declared.refusal.FileRefusal.{FileRefusal}

@@ -1,5 +1,5 @@
 -- One record of a file and the index.
-use Rattle.std.specs.Prelude.{◌≡◌, ℕ, ◌<◌, Bool, true, false, cond, List, Ok, Err, Result, ◌==◌, slice_index, slice_set}
+use Rattle.std.specs.Prelude.{ℕ, ◌<◌, Bool, true, false, cond, Ok, Err, Result, ◌==◌, slice_index, slice_set}
 use Rattle.octets.specs.Outcome.{Refused}
 use Rattle.header.specs.declared.cell.Axis.{Axis}
 use Rattle.header.specs.declared.cell.Axis.TheVariants.{Row, Column}

@@ -1,5 +1,5 @@
 -- What a block file is and means: a header, roots, then any number of groups, each a group record, any shares and its own end.
-use Rattle.std.specs.Prelude.{ℕ, zero, suc, ◌+◌, ◌-◌, Bool, cond, ◌&&◌, List, [], ◌∷◌, length, replicate, is_some, Some, None, Ok, Err, Option, Result, ◌==◌, nat_lt}
+use Rattle.std.specs.Prelude.{ℕ, zero, suc, ◌+◌, ◌-◌, cond, ◌&&◌, List, [], ◌∷◌, length, replicate, is_some, Some, None, Ok, Err, Option, Result, ◌==◌, nat_lt}
 use Rattle.octets.specs.Outcome.{Refused, plain}
 use Rattle.hash.specs.Digests.{digest_len}
 use Rattle.header.specs.declared.cell.Axis.{Axis}

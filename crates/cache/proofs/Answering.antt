@@ -1,11 +1,11 @@
 -- What the cache shows, keeps and counts.
-use Rattle.std.proofs.Common.{◌≡◌, ℕ, ◌+◌, ◌-◌, ◌^◌, min, List, length, Some, None, Ok, Err, Option, Result, sym, refl, ap, ◌∙◌, subst, ap₂, arith}
+use Rattle.std.proofs.Common.{◌≡◌, ℕ, ◌+◌, ◌-◌, ◌^◌, min, List, Some, None, Ok, Option, Result, sym, refl, ap, ◌∙◌, subst, ap₂, arith}
 use Rattle.octets.specs.Outcome.{Refused}
 use Rattle.header.specs.Fields.{Fields}
 use Rattle.evidence.specs.Evidence.{Evidence}
 use Rattle.store.specs.Meaning.{Meaning}
 use Rattle.cache.specs.declared.kept.Kept.{Kept}
-use Rattle.cache.specs.Keeping.{Answer, Keeps, CacheOrder, Unasked, checked, answer_in, answer_at, place_in, places, pushed, kept_for, kept_after, count_after}
+use Rattle.cache.specs.Keeping.{Answer, Keeps, CacheOrder, Unasked, checked, answer_in, answer_at, places, pushed, kept_after, count_after}
 use Rattle.cache.proofs.Keepers.{keeps_pushed, places_pushed}
 
 -- ---- a question q that is not refused

@@ -1,9 +1,8 @@
 -- What a question that went below brings.
-use Rattle.std.proofs.Common.{◌≡◌, ℕ, ◌-◌, ◌≤◌, Bool, true, false, cond, List, ◌++◌, length, take, drop, Some, None, Ok, Err, Option, Result, sym, refl, ap, ◌∙◌, subst, ap₂}
+use Rattle.std.proofs.Common.{◌≡◌, ℕ, ◌-◌, ◌≤◌, Bool, true, false, cond, List, ◌++◌, length, take, drop, Some, None, Ok, Option, sym, refl, ap, ◌∙◌, ap₂}
 use native.Mathlib.Nat.{sub-zero}
 use Rattle.std.proofs.lemmas.List.{length-take-le, take_at}
-use Rattle.std.proofs.lemmas.Bool.{cond-true, cond-false}
-use Rattle.octets.specs.Outcome.{Refused}
+use Rattle.std.proofs.lemmas.Bool.{cond-true}
 use Rattle.header.specs.declared.cell.Axis.{Axis}
 use Rattle.header.specs.declared.cell.Cell.{Cell}
 use Rattle.header.specs.Fields.{Fields}
@@ -15,7 +14,7 @@ use Rattle.store.specs.Taking.{taken, in_hand, Takes}
 use Rattle.store.proofs.Asking.{admitted}
 use Rattle.store.proofs.Sweeps.{in_hand_lem}
 use Rattle.cache.specs.declared.kept.Kept.{Kept}
-use Rattle.cache.specs.Keeping.{header_fits, checked, answer_at, place_in, Brings}
+use Rattle.cache.specs.Keeping.{header_fits, answer_at, Brings}
 
 module _ (f : List ℕ → List ℕ) (kind : ℕ) (h : Fields) (m m' : Meaning) (order : Type 0) (cell : Cell) (n p : ℕ) (share path share' path' : List ℕ)
     (free : asked m.k m.s cell.row cell.col n p ≡ Ok tt) (ls : length share ≡ n) (lp : length path ≡ p) where

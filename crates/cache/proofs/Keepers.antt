@@ -1,12 +1,11 @@
 -- What the kept answers give.
-use Rattle.std.proofs.Common.{◌≡◌, ℕ, zero, suc, ◌+◌, ◌-◌, ◌^◌, ◌<◌, ◌≤◌, min, Bool, true, false, cond, ◌&&◌, eqb, ◌≢◌, ◌⊎◌, List, [], ◌∷◌, ◌++◌, map, length, get_or, take, drop, set, Some, None, Ok, Err, Option, Result, sym, refl, ap, ◌∙◌, subst, inl, inr, arith, length-drop}
+use Rattle.std.proofs.Common.{◌≡◌, ℕ, zero, suc, ◌+◌, ◌-◌, ◌<◌, true, false, cond, ◌&&◌, eqb, List, [], ◌∷◌, ◌++◌, length, get_or, take, drop, set, Some, None, Option, sym, refl, ap, ◌∙◌, subst, inl, inr, arith, length-drop}
 use Rattle.std.proofs.lemmas.List.{at_drop_more, get_or_append_left, get_or-append_right, get_or-drop, set-append_right}
 use Rattle.std.proofs.lemmas.Bool.{eqb-true, and_parts, cases_Bool, cases_lt, cond-true, cond-false}
-use Rattle.octets.specs.Outcome.{Refused}
 use Rattle.evidence.specs.Evidence.{Evidence}
 use Rattle.store.specs.Meaning.{Meaning}
 use Rattle.cache.specs.declared.kept.Kept.{Kept}
-use Rattle.cache.specs.Keeping.{Answer, Keeps, answer_in, place_in, places, pushed, kept_for, kept_after, count_after, evidence_of, answer_at}
+use Rattle.cache.specs.Keeping.{Answer, Keeps, answer_in, place_in, places, pushed, kept_for}
 
 -- ---- going through the places
 

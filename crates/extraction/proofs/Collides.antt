@@ -15,7 +15,7 @@ use Rattle.merkle.proofs.Climbing.{climbs_own}
 use Rattle.merkle.proofs.Layouts.{layouts_stand}
 use Rattle.merkle.proofs.Steps.{climb_more}
 use Rattle.codes.specs.Code.{Table}
-use Rattle.codes.specs.Words.{at, Through}
+use Rattle.codes.specs.Words.{Through}
 use Rattle.erasure.specs.Limits.{ok_width}
 use Rattle.header.specs.declared.cell.Axis.{Axis}
 use Rattle.header.specs.Fields.{Fields}

@@ -1,5 +1,4 @@
 -- What an opened block file means as a store: the k and the share size of its header, and at each cell the evidence that it has there.
-use Rattle.header.specs.Fields.{fields_of}
 use Rattle.blockfile.specs.declared.file.BlockFile.{BlockFile}
 use Rattle.blockfile.specs.File.{evidence_of}
 use Rattle.store.specs.Meaning.{Meaning}

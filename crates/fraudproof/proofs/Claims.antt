@@ -1,5 +1,5 @@
 -- The claim of a proof, and the parts of the proof that was read.
-use Rattle.std.proofs.Common.{◌≡◌, ℕ, ◌+◌, ◌-◌, ◌*◌, ◌<◌, ◌≤◌, Bool, true, false, cond, List, [], ◌∷◌, ◌++◌, length, get_or, take, drop, Ok, Err, Result, sym, refl, ap, ◌∙◌, subst, arith, length-drop, length-take-le, Bor}
+use Rattle.std.proofs.Common.{◌≡◌, ℕ, ◌+◌, ◌-◌, ◌*◌, ◌<◌, ◌≤◌, true, List, length, get_or, take, drop, Ok, Err, Result, sym, refl, ap, ◌∙◌, arith, length-drop, length-take-le, Bor}
 use Rattle.std.proofs.lemmas.Bool.{eqb-true}
 use Rattle.std.proofs.lemmas.Bool.Decides.{nat_tests}
 use Rattle.octets.specs.Outcome.{Refused}
@@ -16,7 +16,6 @@ use Rattle.wire.specs.declared.record.Record.{Record}
 use Rattle.wire.specs.declared.record.Record.TheVariants.{Header, Roots, Group, Share, GroupEnd, Claim, Witness}
 use Rattle.wire.proofs.Trips.{cut_at, behind_is}
 use Rattle.fraudproof.specs.Form.{claimed, with_claim, behind_claim, witnesses_from, case_outcome}
-use Rattle.fraudproof.specs.Proof.{Case}
 
 -- the claim v that was read
 pub record Read (h : Fields) (bs : List ℕ) (v : values.Claim) (rest : List ℕ) : Type 0 where

@@ -1,18 +1,18 @@
 -- The walk over the records of a proof.
-use Rattle.std.proofs.Common.{◌≡◌, ℕ, zero, suc, ◌+◌, ◌-◌, ◌*◌, ◌<◌, ◌≤◌, Bool, true, false, cond, eqb, ltb, leb, List, [], ◌∷◌, ◌++◌, map, length, get_or, take, drop, Ok, Err, Result, sym, refl, ap, ◌∙◌, subst, append_assoc, append-nil, add-mul, arith, length-drop, get_or-drop, get_or-take, take-take, drop-drop, below_more}
+use Rattle.std.proofs.Common.{◌≡◌, ℕ, zero, suc, ◌+◌, ◌-◌, ◌*◌, ◌<◌, ◌≤◌, true, false, eqb, List, [], ◌∷◌, ◌++◌, map, length, get_or, take, drop, Ok, Err, Result, sym, refl, ap, ◌∙◌, subst, append_assoc, append-nil, add-mul, arith, length-drop, get_or-drop, get_or-take, take-take, drop-drop, below_more}
 use Rattle.std.specs.List.{range_with_len}
 use Rattle.std.proofs.lemmas.List.FromFn.{map-range_with_len_more}
 use Rattle.std.proofs.lemmas.List.{drop-take}
 use Rattle.std.proofs.lemmas.Bool.{eqb-true, cond-true, cond-false}
 use Rattle.std.proofs.lemmas.Bool.Decides.{nat_tests}
-use Rattle.octets.specs.Outcome.{Refused, plain}
+use Rattle.octets.specs.Outcome.{Refused}
 use Rattle.header.specs.Fields.{Fields}
 use Rattle.header.specs.Sizes.{width, head_len, path_len, witness_body}
 use Rattle.wire.specs.declared.due.Due.TheVariants as due
 use Rattle.wire.specs.Values as values
 use Rattle.wire.specs.Values.{Rec, witness}
-use Rattle.wire.specs.Reading.{is_due, is_known, kind_in, body_len, body_for, record_in, witness_in, in_range, reads_at}
-use Rattle.wire.proofs.Trips.{Cut, cut_at, behind_is}
+use Rattle.wire.specs.Reading.{is_due, kind_in, body_for, record_in, witness_in, in_range, reads_at}
+use Rattle.wire.proofs.Trips.{cut_at, behind_is}
 use Rattle.fraudproof.specs.Form.{left_over, at_last, in_front, one_more, go_on, witnesses_from}
 use Rattle.fraudproof.specs.Proof.{witness_len, witness_of, witness_at}
 use Rattle.fraudproof.specs.Reads.{WitnessRecords}

@@ -4,7 +4,6 @@ use Rattle.octets.specs.Outcome.{Refused, plain}
 use Rattle.hash.specs.Digests.{digest_len}
 use Rattle.header.specs.Fields.{Fields}
 use Rattle.header.specs.Sizes.{width, head_len, claim_body, data_path_len}
-use Rattle.wire.specs.Refusals.{refused_at}
 use Rattle.wire.specs.Values as values
 use Rattle.wire.specs.Values.{Rec, header, roots, group, share, end, claim, witness}
 use Rattle.wire.specs.Parts.{Spot, after}

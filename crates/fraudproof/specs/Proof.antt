@@ -1,5 +1,5 @@
 -- A proof of bad encoding by its values: a claim, and witnesses on the claimed line.
-use Rattle.std.specs.Prelude.{ℕ, ◌+◌, ◌*◌, List, map, length, take, drop, slice_index}
+use Rattle.std.specs.Prelude.{ℕ, ◌+◌, ◌*◌, List, map, take, drop, slice_index}
 use Rattle.std.specs.List.{range_with_len}
 use Rattle.header.specs.Fields.{Fields}
 use Rattle.header.specs.Sizes.{head_len, witness_body, path_len}

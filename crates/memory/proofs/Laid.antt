@@ -1,5 +1,5 @@
 -- An image that was laid out from a square.
-use Rattle.std.proofs.Common.{◌≡◌, ℕ, zero, suc, ◌+◌, ◌-◌, ◌*◌, ◌<◌, ◌≤◌, Bool, true, false, cond, not, ◌&&◌, eqb, List, [], ◌∷◌, ◌++◌, length, take, drop, Some, None, Option, sym, refl, ap, ◌∙◌, subst, ap₂, suc-mul, zero-mul, arith, length-append, length-drop}
+use Rattle.std.proofs.Common.{◌≡◌, ℕ, zero, suc, ◌+◌, ◌*◌, ◌<◌, ◌≤◌, true, not, List, ◌++◌, length, take, drop, Some, None, Option, sym, refl, ap, ◌∙◌, subst, ap₂, suc-mul, zero-mul, arith, length-append, length-drop}
 use Rattle.std.specs.List.{range_with_len, flat_map}
 use Rattle.std.proofs.lemmas.Nat.{mul-add-lt}
 use Rattle.std.proofs.lemmas.List.{drop-drop, drop_at, take_at, take_all, take-append-le, drop-append-le, append_assoc}
@@ -12,10 +12,10 @@ use Rattle.erasure.specs.Limits.{ok_width}
 use Rattle.erasure.proofs.Bounds.{width_some}
 use Rattle.header.specs.declared.cell.Axis.TheVariants.{Row}
 use Rattle.header.specs.Fields.{Fields}
-use Rattle.header.specs.Sizes.{width, depth, square_len, axis_tree_len, data_tree_len, has_cell, cell_number}
+use Rattle.header.specs.Sizes.{width, depth, square_len, axis_tree_len, data_tree_len, cell_number}
 use Rattle.commitment.specs.Commit.{committed}
-use Rattle.commitment.specs.Roots.{line_tree, roots_of, data_root_of}
-use Rattle.evidence.specs.Evidence.{Evidence, verifies, proves}
+use Rattle.commitment.specs.Roots.{line_tree, roots_of}
+use Rattle.evidence.specs.Evidence.{Evidence, verifies}
 use Rattle.evidence.specs.Paths.{cell_share, evidence_path}
 use Rattle.evidence.proofs.Proving.{own_verifies}
 use Rattle.image.specs.Image.{row_trees, data_tree, image_of}

@@ -1,16 +1,15 @@
 -- Cells held one by one.
-use Rattle.std.proofs.Common.{◌≡◌, ℕ, ◌+◌, ◌*◌, ◌/◌, ◌%◌, ◌<◌, ◌≤◌, cond, List, length, get_or, set, replicate, Some, None, Ok, Err, Option, Result, sym, refl, ap, ◌∙◌, subst, ap₂, inl, inr, mod-lt, div-lt_iff_lt-mul, arith, below_more}
+use Rattle.std.proofs.Common.{◌≡◌, ℕ, ◌+◌, ◌*◌, ◌/◌, ◌%◌, ◌<◌, ◌≤◌, List, length, get_or, set, replicate, Some, None, Ok, Option, sym, refl, ap, ◌∙◌, subst, ap₂, inl, inr, mod-lt, div-lt_iff_lt-mul, arith, below_more}
 use Rattle.std.proofs.lemmas.Nat.{div-mul-add, mod-mul-add, mul-add-lt}
 use Rattle.std.proofs.lemmas.List.{get_or-set_same, get_or-set_other, get_or-replicate, get_or_past, length-replicate}
 use Rattle.std.proofs.lemmas.Bool.{cases_lt}
-use Rattle.octets.specs.Shares.{byte_of, buffer}
-use Rattle.octets.specs.Splice.{over, spliced}
+use Rattle.octets.specs.Shares.{byte_of}
+use Rattle.octets.specs.Splice.{spliced}
 use Rattle.octets.proofs.Shares.{buffer_from_bytes, put_more, share_inside}
 use Rattle.octets.proofs.Splices.{over_is, spliced_in}
 use Rattle.header.specs.declared.cell.Axis.{Axis}
 use Rattle.header.specs.Fields.{Fields}
 use Rattle.header.specs.Sizes.{width, cell_count, square_len}
-use Rattle.evidence.specs.Evidence.{Evidence}
 use Rattle.store.specs.Meaning.{Meaning}
 use Rattle.store.specs.Showing.{asked}
 use Rattle.store.specs.Taking.{taken, brought, in_hand, Takes}

@@ -9,7 +9,7 @@ use Rattle.evidence.specs.Evidence.{Evidence, verifies, proves}
 use Rattle.store.specs.declared.refusal.StoreRefusal.{StoreRefusal}
 use Rattle.store.specs.Refusals.{told}
 use Rattle.store.specs.Meaning.{Meaning}
-use Rattle.store.specs.Showing.{asked, axis_of, share_over, path_over, answer_to, Shows}
+use Rattle.store.specs.Showing.{asked, share_over, path_over, answer_to, Shows}
 use Rattle.store.specs.Taking.{verified_only, taken, brought, in_hand, Takes}
 
 -- ---- a question q that meets v at its cell

@@ -1,12 +1,12 @@
 -- A record whose values and lengths were tested is written, and read back.
-use Rattle.std.proofs.Common.{◌≡◌, ℕ, ◌+◌, ◌^◌, ◌<◌, ◌≤◌, Bool, true, false, cond, not, ◌&&◌, eqb, List, [], ◌++◌, length, Ok, Err, Result, sym, refl, ap, ◌∙◌, append-nil, arith}
+use Rattle.std.proofs.Common.{◌≡◌, ℕ, ◌+◌, ◌^◌, ◌<◌, Bool, true, false, ◌&&◌, eqb, [], length, Ok, sym, refl, ap, ◌∙◌, append-nil, arith}
 use Rattle.std.proofs.lemmas.Bool.{eqb-true}
 use Rattle.std.proofs.lemmas.Bool.Decides.{nat_tests}
 use Rattle.header.specs.Fields.{Fields}
 use Rattle.header.specs.Sizes.{head_len}
 use Rattle.header.proofs.Measures.{Allowed}
 use Rattle.wire.specs.Values.{Rec}
-use Rattle.wire.specs.Reading.{body_for, in_range, is_due, reads}
+use Rattle.wire.specs.Reading.{in_range, is_due, reads}
 use Rattle.wire.specs.Writing.{kind_of, body_of, bytes_of, parts_fit, record_len, target_fits, write_outcome, ReadsBack}
 use Rattle.wire.specs.declared.due.Due.TheVariants.{Anything}
 use Rattle.wire.proofs.Lengths.{body_short}

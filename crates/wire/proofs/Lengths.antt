@@ -1,10 +1,9 @@
 -- Bodies are short.
-use Rattle.std.proofs.Common.{◌≡◌, ℕ, ◌+◌, ◌*◌, ◌^◌, ◌<◌, ◌≤◌, true, ap, ◌∙◌, arith}
+use Rattle.std.proofs.Common.{ℕ, ◌≤◌, arith}
 use Rattle.std.proofs.lemmas.Bool.Decides.{nat_tests}
-use Rattle.hash.specs.Digests.{digest_len}
 use Rattle.erasure.proofs.Bounds.{width_most, size_most}
 use Rattle.header.specs.Fields.{Fields}
-use Rattle.header.specs.Sizes.{depth_of, path_len, data_path_len, roots_len, share_body, claim_body, witness_body}
+use Rattle.header.specs.Sizes.{roots_len, share_body, claim_body, witness_body}
 use Rattle.header.proofs.Measures.{Allowed, depth_most}
 use Rattle.wire.specs.Reading.{body_for}
 

@@ -1,5 +1,5 @@
 -- Four parts written one behind the other, to the end of a target.
-use Rattle.std.proofs.Common.{◌≡◌, ℕ, ◌+◌, ◌≤◌, List, [], ◌∷◌, ◌++◌, length, take, drop, sym, refl, ap, ◌∙◌, append_assoc, arith}
+use Rattle.std.proofs.Common.{◌≡◌, ℕ, ◌≤◌, List, ◌++◌, length, take, sym, ap, ◌∙◌, append_assoc}
 use Rattle.std.proofs.lemmas.List.{take_all}
 
 pub four_parts : (out₀ out₁ out₂ out₃ out₄ h f a b : List ℕ) (n₁ n₂ n₃ n₄ : ℕ)

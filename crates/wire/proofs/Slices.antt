@@ -1,5 +1,5 @@
 -- Parts of a body behind its numbers.
-use Rattle.std.proofs.Common.{◌≡◌, ℕ, ◌+◌, ◌-◌, List, length, take, drop, sym, refl, ap, ◌∙◌, arith, drop-drop}
+use Rattle.std.proofs.Common.{◌≡◌, ℕ, ◌+◌, ◌-◌, List, length, take, drop, sym, ap, ◌∙◌, arith, drop-drop}
 use Rattle.std.proofs.lemmas.List.{take_rest}
 
 pub first_part : (m n : ℕ) (b : List ℕ) → take (m + n - m) (drop m b) ≡ take n (drop m b)

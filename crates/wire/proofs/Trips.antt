@@ -1,12 +1,12 @@
 -- Reading and writing undo each other.
-use Rattle.std.proofs.Common.{◌≡◌, ℕ, ◌+◌, ◌*◌, ◌/◌, ◌%◌, ◌^◌, ◌<◌, ◌≤◌, Bool, true, false, cond, not, ◌&&◌, ◌||◌, eqb, ltb, ◌⊎◌, List, [], ◌∷◌, ◌++◌, length, get_or, take, drop, Ok, Err, Result, sym, refl, ap, ◌∙◌, subst, inl, inr, append_assoc, append-nil, arith, length-append, length-drop, take-append-drop, length-take-le, drop-drop}
+use Rattle.std.proofs.Common.{◌≡◌, ℕ, ◌+◌, ◌^◌, ◌<◌, ◌≤◌, Bool, true, false, cond, not, ◌&&◌, ◌||◌, eqb, ltb, List, [], ◌∷◌, ◌++◌, length, take, drop, Ok, Err, Result, sym, refl, ap, ◌∙◌, subst, inl, inr, append_assoc, append-nil, arith, length-append, length-drop, take-append-drop, length-take-le, drop-drop}
 use Rattle.std.specs.List.{AllByRecursion as All}
 use Rattle.std.proofs.ByRecursion.{All-take, All-drop}
 use Rattle.std.proofs.lemmas.List.{nil_from_length, take_at, drop_at}
 use Rattle.std.proofs.lemmas.Bool.{or_cases, eqb-true, ltb-false}
 use Rattle.std.proofs.lemmas.Bool.Decides.{nat_tests}
 use Rattle.octets.specs.Outcome.{Refused, plain}
-use Rattle.erasure.proofs.Bounds.{width_most, size_most}
+use Rattle.erasure.proofs.Bounds.{width_most}
 use Rattle.header.specs.Fields.{Fields}
 use Rattle.erasure.specs.Limits.{ok_width, ok_size}
 use Rattle.header.specs.Sizes.{head_len, path_len, data_path_len, roots_len, share_body, claim_body, witness_body}
@@ -14,8 +14,8 @@ use Rattle.header.proofs.Measures.{Allowed}
 use Rattle.wire.specs.declared.due.Due.{Due}
 use Rattle.wire.specs.Refusals.{refused_at}
 use Rattle.wire.specs.Values.{Rec, header, roots, group, share, end, claim, witness}
-use Rattle.wire.specs.Reading.{two, body_len, kind_in, is_known, is_due, body_for, record_in, header_in, group_in, share_in, claim_in, witness_in, in_range, admitted, ranged, after_head, reads, placed, reads_at}
-use Rattle.wire.specs.Writing.{head_of, framed, kind_of, body_of, bytes_of, parts_fit, write_outcome, WritesBack}
+use Rattle.wire.specs.Reading.{body_len, kind_in, is_known, is_due, body_for, record_in, header_in, group_in, share_in, claim_in, witness_in, in_range, admitted, ranged, after_head, reads, placed, reads_at}
+use Rattle.wire.specs.Writing.{head_of, framed, kind_of, body_of, bytes_of, parts_fit, WritesBack}
 use Rattle.wire.proofs.Heads.{two_back, four_back, low, high, head_of_lem}
 use Rattle.wire.proofs.Lengths.{body_short}
 

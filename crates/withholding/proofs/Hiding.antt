@@ -1,11 +1,10 @@
 -- Two ways to say which cells are hidden.
-use Rattle.std.proofs.Common.{◌≡◌, ℕ, Bool, false, cond, eqb, List, get_or, replicate, None, Option, sym, refl, ap, ◌∙◌, inl, inr, arith}
+use Rattle.std.proofs.Common.{◌≡◌, ℕ, Bool, false, List, get_or, replicate, ap, inl, inr, arith}
 use mathlib.Core.Path.{fun_ext}
 use Rattle.std.proofs.lemmas.List.{get_or-replicate, get_or_past, length-replicate}
 use Rattle.std.proofs.lemmas.Bool.{cases_lt}
-use Rattle.header.specs.Sizes.{cell_number}
-use Rattle.store.specs.Meaning.{Meaning, block}
-use Rattle.withholding.specs.Masked.{without, masked, hiding}
+use Rattle.store.specs.Meaning.{Meaning}
+use Rattle.withholding.specs.Masked.{without, masked}
 
 -- tests that agree hide the same
 pub same_hidden : (m : Meaning) (p q : ℕ → Bool) → ((i : ℕ) → p i ≡ q i) → without m p ≡ without m q

@@ -1,4 +1,4 @@
-use Rattle.std.proofs.Common.{◌≡◌, sym, refl}
+use Rattle.std.proofs.Common.{sym}
 use Rattle.std.proofs.lemmas.Bool.{cond-true}
 use Rattle.header.specs.Fields.{fields_of}
 use Rattle.blockfile.proofs.Cells.{inside_of, number_low}

@@ -1,10 +1,9 @@
-use Rattle.std.proofs.Common.{◌≡◌, ℕ, ◌+◌, ◌≤◌, length, Ok, Err, sym, refl, ap, ◌∙◌, subst, arith}
+use Rattle.std.proofs.Common.{◌≡◌, ◌+◌, Ok, Err, sym, refl, ap, subst, arith}
 use Rattle.blockfile.specs.declared.refusal.FileRefusal.TheVariants.{TooLong}
 use Rattle.std.proofs.lemmas.Result.{err_from_is_err_and}
 use Rattle.header.specs.Fields.{fields_of}
 use Rattle.blockfile.specs.File.{groups_place}
 use Rattle.blockfile.specs.Opening.{Walks, closed}
-use Rattle.blockfile.specs.Walk.{file_limit}
 use Rattle.blockfile.proofs.Opens.{too_long, bad_header, bad_roots, bad_groups, good_groups, opens_as}
 use Rattle.blockfile.proofs.open.open_file.Goals as goal
 

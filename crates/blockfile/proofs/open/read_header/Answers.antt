@@ -1,11 +1,10 @@
-use Rattle.std.proofs.Common.{◌≡◌, ℕ, sym, refl, ap, ◌∙◌, subst, arith}
-use Rattle.header.specs.Fields.{Fields, fields_of, header_outcome}
+use Rattle.std.proofs.Common.{◌≡◌, ℕ, sym, ap, ◌∙◌, subst, arith}
+use Rattle.header.specs.Fields.{Fields, fields_of}
 use Rattle.header.proofs.Made.{made}
 use Rattle.wire.specs.Parts.{value_of}
 use Rattle.wire.specs.Reading.{reads_at}
 use Rattle.wire.specs.declared.due.Due.TheVariants as due
 use Rattle.blockfile.specs.File.{HeadIs}
-use Rattle.blockfile.specs.Walk.{no_block}
 use Rattle.blockfile.proofs.Heads.{header_due, not_header, header_read}
 use Rattle.blockfile.proofs.open.read_header.Goals as goal
 

@@ -1,4 +1,4 @@
-use Rattle.std.proofs.Common.{◌≡◌, ℕ, ◌+◌, ◌*◌, ◌<◌, sym, refl, ap, ◌∙◌, arith}
+use Rattle.std.proofs.Common.{◌≡◌, ◌+◌, ◌*◌, ap, ◌∙◌, arith}
 use Rattle.header.specs.Fields.{fields_of}
 use Rattle.header.specs.Lines.{row_at, col_at}
 use Rattle.header.specs.Sizes.{width, cell_number}

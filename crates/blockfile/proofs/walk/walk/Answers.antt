@@ -1,9 +1,8 @@
-use Rattle.std.proofs.Common.{◌≡◌, ℕ, ◌-◌, ◌<◌, List, length, take, drop, sym, refl, ap, ◌∙◌, arith, length-drop}
+use Rattle.std.proofs.Common.{ℕ, ◌-◌, ◌<◌, List, length, take, drop, refl, ap, ◌∙◌, arith, length-drop}
 use Rattle.std.proofs.lemmas.List.{take_rest}
 use Rattle.std.proofs.lemmas.Result.{err_from_is_err_and}
 use Rattle.header.specs.Fields.{fields_of}
 use Rattle.wire.specs.Reading.{reads_at}
-use Rattle.blockfile.specs.Walk.{due_at}
 use Rattle.blockfile.proofs.Walks.{starts, faulty, refuses, goes_on, refused_walk, ended_walk}
 use Rattle.blockfile.proofs.walk.walk.Goals as goal
 

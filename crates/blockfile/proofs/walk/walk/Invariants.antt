@@ -1,6 +1,5 @@
-use Rattle.std.proofs.Common.{◌-◌, ◌≤◌, length}
+use Rattle.std.proofs.Common.{◌-◌, length}
 use Rattle.header.specs.Fields.{fields_of}
-use Rattle.blockfile.specs.Walk.{file_limit}
 use Rattle.blockfile.proofs.Walks.{Walking}
 use Rattle.blockfile.proofs.walk.walk.Given as goal
 

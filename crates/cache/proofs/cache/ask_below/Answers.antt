@@ -1,4 +1,4 @@
-use Rattle.std.proofs.Common.{◌≡◌, ℕ, length, sym, refl, ap, ◌∙◌}
+use Rattle.std.proofs.Common.{sym, refl, ◌∙◌}
 use Rattle.header.specs.Fields.{fields_of}
 use Rattle.cache.proofs.Bringing.{brings, part_long, part_kept}
 use Rattle.cache.proofs.cache.ask_below.Goals as goal

@@ -1,7 +1,6 @@
-use Rattle.std.proofs.Common.{◌≡◌, ℕ, ◌+◌, ◌*◌, ◌^◌, ◌<◌, ◌≤◌, length, sym, refl, ap, ◌∙◌, arith, length-drop}
+use Rattle.std.proofs.Common.{◌≡◌, ◌+◌, ◌*◌, ◌^◌, ◌<◌, length, sym, refl, ap, arith, length-drop}
 use Rattle.std.proofs.lemmas.Result.{err_from_is_err_and}
 use Rattle.header.specs.Fields.{fields_of}
-use Rattle.wire.specs.Parts.{value_of}
 use Rattle.fraudproof.specs.Proof.{witness_len}
 use Rattle.fraudproof.proofs.Forms.{walk_break, walk_more, walk_end, walk_over, nothing_read}
 use Rattle.fraudproof.proofs.read.read_witnesses.Goals as goal

@@ -1,9 +1,7 @@
-use Rattle.std.proofs.Common.{◌≡◌, ℕ, ◌+◌, ◌-◌, ◌*◌, ◌^◌, ◌<◌, ◌≤◌, List, ◌++◌, length, take, drop, sym, ap, ◌∙◌, ap₂, arith, length-append, length-drop, length-take}
+use Rattle.std.proofs.Common.{◌≡◌, ◌+◌, ◌-◌, ◌*◌, ◌≤◌, ◌++◌, length, take, drop, sym, ap, ◌∙◌, ap₂, arith, length-append, length-drop, length-take}
 use borrow.Rule.Slice.PartMut.{post_of}
-use Rattle.hash.specs.Digests.{digest_len}
 use Rattle.merkle.specs.Layout.{path_of}
-use Rattle.header.specs.Fields.{Fields, fields_of}
-use Rattle.header.specs.Sizes.{depth, width, image_len}
+use Rattle.header.specs.Fields.{fields_of}
 use Rattle.header.proofs.Measures.{measured, square_most}
 use Rattle.evidence.proofs.Joining.{two_parts}
 use Rattle.memory.specs.Images.{row_tree_in, data_tree_in}

@@ -1,8 +1,7 @@
-use Rattle.std.proofs.Common.{◌≡◌, ℕ, ◌+◌, ◌-◌, ◌*◌, ◌≤◌, length, take, drop, sym, ap, ◌∙◌, ap₂, arith}
+use Rattle.std.proofs.Common.{◌≡◌, ◌+◌, ◌*◌, length, sym, ap, ◌∙◌, arith}
 use Rattle.octets.specs.Shares.{share}
 use Rattle.octets.proofs.Shares.{share_read}
 use Rattle.header.specs.Fields.{fields_of}
-use Rattle.header.specs.Sizes.{width, image_len}
 use Rattle.header.proofs.Measures.{measured}
 use Rattle.memory.proofs.Spots.{spot}
 use Rattle.memory.proofs.read.put_share.Goals as goal

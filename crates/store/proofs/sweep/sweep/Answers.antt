@@ -1,10 +1,9 @@
-use Rattle.std.proofs.Common.{◌≡◌, ℕ, ◌≤◌, true, false, cond, ◌&&◌, eqb, length, sym, refl, ap, ◌∙◌, arith}
+use Rattle.std.proofs.Common.{◌&&◌, eqb, length, sym, ap, arith}
 use Rattle.std.proofs.lemmas.Bool.{and_parts, eqb-true}
 use Rattle.header.specs.Fields.{Fields, fields_of}
 use Rattle.header.specs.Sizes.{square_len, cell_count}
 use Rattle.header.proofs.Measures.{measured}
 use Rattle.store.specs.Meaning.{Meaning}
-use Rattle.store.specs.Sweeping.{sweep_fits, held_square, held_marks}
 use Rattle.store.proofs.sweep.sweep.Goals as goal
 
 pub sweep_in-requires : goal.sweep_in-requires

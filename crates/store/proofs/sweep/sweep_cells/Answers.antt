@@ -1,11 +1,11 @@
-use Rattle.std.proofs.Common.{◌≡◌, ℕ, ◌*◌, ◌/◌, ◌%◌, ◌<◌, length, Ok, sym, refl, ap, ◌∙◌, subst, arith}
+use Rattle.std.proofs.Common.{◌≡◌, ℕ, ◌*◌, ◌/◌, ◌%◌, length, Ok, ap, ◌∙◌, subst, arith}
 use Rattle.octets.specs.Splice.{spliced}
 use Rattle.header.specs.Fields.{Fields, fields_of}
-use Rattle.header.specs.Sizes.{width, cell_count, square_len, path_len}
+use Rattle.header.specs.Sizes.{width, cell_count, path_len}
 use Rattle.header.proofs.Measures.{measured}
 use Rattle.store.specs.Meaning.{Meaning, block}
 use Rattle.store.specs.Showing.{asked}
-use Rattle.store.specs.Sweeping.{Holds, taken_at}
+use Rattle.store.specs.Sweeping.{Holds}
 use Rattle.store.proofs.Asking.{admit}
 use Rattle.store.proofs.Sweeps.{Cells, Marks, cells_more, marks_more, all_cells, all_marks_lem, row_below, col_below, moved}
 use Rattle.store.proofs.sweep.sweep_cells.Goals as goal

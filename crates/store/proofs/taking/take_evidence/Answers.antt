@@ -1,4 +1,4 @@
-use Rattle.std.proofs.Common.{◌≡◌, true, false, sym}
+use Rattle.std.proofs.Common.{true, false, sym}
 use Rattle.header.specs.Fields.{fields_of}
 use Rattle.store.proofs.Takings.{value_some, value_none, takes_verified, takes_none}
 use Rattle.store.proofs.taking.take_evidence.Goals as goal

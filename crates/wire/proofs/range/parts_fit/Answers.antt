@@ -1,6 +1,5 @@
-use Rattle.std.proofs.Common.{sym, refl, ◌∙◌, arith}
+use Rattle.std.proofs.Common.{arith}
 use Rattle.std.proofs.lemmas.Bool.Decides.{nat_tests}
-use Rattle.erasure.proofs.Bounds.{width_most}
 use Rattle.wire.specs.Writing.{parts_fit}
 use Rattle.wire.proofs.range.parts_fit.Goals as goal
 

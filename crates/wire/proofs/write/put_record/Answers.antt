@@ -1,4 +1,4 @@
-use Rattle.std.proofs.Common.{◌≡◌, ◌/◌, ◌%◌, List, [], ◌∷◌, ◌++◌, length, get_or, sym, refl, ap, ◌∙◌, arith, length-append}
+use Rattle.std.proofs.Common.{◌/◌, ◌%◌, [], ◌∷◌, ◌++◌, length, get_or, ap, ◌∙◌, arith, length-append}
 use Rattle.wire.specs.Parts.{value_of}
 use Rattle.wire.specs.Writing.{body_of, bytes_of, framed}
 use Rattle.wire.proofs.write.put_record.Goals as goal

@@ -1,11 +1,11 @@
-use Rattle.std.proofs.Common.{◌≡◌, length, sym, refl, ap, ◌∙◌}
+use Rattle.std.proofs.Common.{length, sym, ap, ◌∙◌}
 use Rattle.octets.specs.Written.{written}
 use Rattle.header.specs.Fields.{fields_of}
 use Rattle.wire.specs.Parts.{value_of}
 use Rattle.wire.specs.Reading.{reads}
 use Rattle.wire.specs.declared.due.Due.TheVariants.{Anything}
-use Rattle.wire.specs.Writing.{bytes_of, ReadsBack}
-use Rattle.wire.proofs.Fits.{Fitting, fitting}
+use Rattle.wire.specs.Writing.{bytes_of}
+use Rattle.wire.proofs.Fits.{fitting}
 use Rattle.wire.proofs.write.write_record.Goals as goal
 
 pub put_record-requires : goal.put_record-requires

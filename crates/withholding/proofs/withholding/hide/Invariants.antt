@@ -1,4 +1,4 @@
-use Rattle.std.proofs.Common.{◌≡◌, ℕ, ◌<◌, ◌≤◌, false, eqb, length, get_or}
+use Rattle.std.proofs.Common.{◌≡◌, ℕ, ◌<◌, ◌≤◌, false, eqb, get_or}
 use Rattle.withholding.proofs.withholding.hide.Given as goal
 
 abbrev pub invariant-loop-i : goal.invariant-loop-i

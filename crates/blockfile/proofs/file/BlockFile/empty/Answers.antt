@@ -1,4 +1,4 @@
-use Rattle.std.proofs.Common.{◌≡◌, [], refl}
+use Rattle.std.proofs.Common.{[], refl}
 use Rattle.header.specs.Fields.{fields_of}
 use Rattle.blockfile.proofs.Walks.{empty_standing}
 use Rattle.blockfile.proofs.file.BlockFile.empty.Goals as goal

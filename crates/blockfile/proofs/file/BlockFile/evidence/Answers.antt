@@ -1,4 +1,4 @@
-use Rattle.std.proofs.Common.{◌≡◌, false, get_or, sym, refl, ap, ◌∙◌, arith}
+use Rattle.std.proofs.Common.{false, get_or, ap, ◌∙◌}
 use Rattle.header.specs.Fields.{fields_of}
 use Rattle.blockfile.proofs.Cells.{says_none, says_by, none_there, found_there}
 use Rattle.blockfile.proofs.file.BlockFile.evidence.Goals as goal

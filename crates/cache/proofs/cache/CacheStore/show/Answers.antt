@@ -1,10 +1,9 @@
-use Rattle.std.proofs.Common.{◌≡◌, ℕ, ◌≤◌, List, length, take, Some, None, Ok, Err, Option, sym, refl, ap, ◌∙◌, arith}
+use Rattle.std.proofs.Common.{◌≡◌, ℕ, ◌≤◌, List, length, take, Some, None, Ok, Option, sym, refl, ap, ◌∙◌, arith}
 use Rattle.erasure.proofs.Bounds.{size_most}
 use Rattle.header.specs.Fields.{Fields, fields_of}
-use Rattle.header.specs.Sizes.{path_len}
 use Rattle.header.proofs.Measures.{depth_most}
 use Rattle.evidence.specs.Evidence.{Evidence}
-use Rattle.store.specs.Meaning.{Meaning, block}
+use Rattle.store.specs.Meaning.{Meaning}
 use Rattle.store.specs.Showing.{asked}
 use Rattle.store.proofs.Asking.{question_is, admitted, shows_this, untouched_free}
 use Rattle.cache.specs.Keeping.{Answer, checked, answer_in, places, pushed, kept_for}

@@ -1,8 +1,8 @@
-use Rattle.std.proofs.Common.{◌≡◌, true, false, cond, not, eqb, length, Ok, Err, Result, sym, refl, ap, ◌∙◌, ap₂}
+use Rattle.std.proofs.Common.{◌≡◌, cond, not, eqb, length, Ok, Err, sym, ap, ◌∙◌, ap₂}
 use Rattle.std.proofs.lemmas.Bool.{eq-eqb, ne_eqb}
-use Rattle.octets.specs.Outcome.{Refused, plain}
+use Rattle.octets.specs.Outcome.{plain}
 use Rattle.octets.specs.Written.{written}
-use Rattle.erasure.specs.Limits.{ok_width, ok_size}
+use Rattle.erasure.specs.Limits.{ok_size}
 use Rattle.header.specs.Sizes.{image_len}
 use Rattle.store.specs.Meaning.{Meaning, block}
 use Rattle.store.proofs.Asking.{untouched_same, untouched_free}

@@ -1,6 +1,5 @@
-use Rattle.std.proofs.Common.{◌≡◌, true, cond, not, ◌&&◌, eqb, length, Some, None, Ok, Err, sym, refl, ap, ◌∙◌}
+use Rattle.std.proofs.Common.{◌≡◌, not, length, Some, None, Ok, sym, refl, ap, ◌∙◌}
 use Rattle.std.proofs.lemmas.Bool.{and_from, ne_eqb, lt-ltb, cond-true}
-use Rattle.header.specs.Sizes.{has_cell}
 use Rattle.store.specs.Meaning.{Meaning, block}
 use Rattle.store.specs.Showing.{asked}
 use Rattle.store.proofs.Asking.{question_is, admitted, shows_this, untouched_free}
