@@ -9,14 +9,14 @@ use Rattle.blockfile.specs.declared.index.Index.{Index}
 
 -- the evidence in the share record at a byte place: behind the head and the place number a share, and then a path
 abbrev pub evidence_in : Fields → List ℕ → ℕ → Bool → Evidence
-evidence_in h bs p byColumn = record {
-  axis = cond byColumn Column Row;
+evidence_in h bs p by_column = record {
+  axis = cond by_column Column Row;
   share = take h.s (drop (p + 8) bs);
   path = take (path_len h) (drop (p + (8 + h.s)) bs);
 }
 
 abbrev pub evidence_by : Fields → List ℕ → ℕ → Bool → Option Evidence
-evidence_by h bs p byColumn = cond (p == 0) None (Some (evidence_in h bs p byColumn))
+evidence_by h bs p by_column = cond (p == 0) None (Some (evidence_in h bs p by_column))
 
 -- what an index says of a cell
 unfoldable pub indexed : Fields → List ℕ → Index → ℕ → ℕ → Option Evidence

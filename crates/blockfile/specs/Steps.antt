@@ -15,7 +15,7 @@ use Rattle.blockfile.specs.declared.point.Point.TheVariants.{Between, Inside}
 
 -- the index with one more share record
 abbrev pub marked : Index → ℕ → ℕ → Bool → Index
-marked ix n at byColumn = record { at = slice_set ix.at n at; column = slice_set ix.column n byColumn }
+marked ix n at by_column = record { at = slice_set ix.at n at; column = slice_set ix.column n by_column }
 
 -- where the walk has come to, and the index
 pub record Held : Type 0 where
@@ -35,7 +35,7 @@ LineLow h Between = Unit {0}
 LineLow h (Inside x i) = i < width h
 
 abbrev pub noting : Point → Index → ℕ → ℕ → Bool → Result Held Refused
-noting pt ix n at byColumn = cond (slice_index ix.at n == 0) (Ok (held pt (marked ix n at byColumn))) (Err (refused_at 12 at))
+noting pt ix n at by_column = cond (slice_index ix.at n == 0) (Ok (held pt (marked ix n at by_column))) (Err (refused_at 12 at))
 
 abbrev pub go_between : Index → ℕ → Rec → Result Held Refused
 go_between ix at (group a i) = Ok (held (Inside (axis_by a) i) ix)

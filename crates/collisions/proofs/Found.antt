@@ -39,7 +39,7 @@ finds f sized rs qs v w r x y x' y' alike long er ex ey =
       answer = er;
       one = ex;
       other = ey;
-      in_hand_lem = λ n h. in_hand_by f _ n x y x' y' (even f sized (leaves alike) v w long) (λ t e. (first_is f _ _ t e).collision) ex ey (sym er ∙ h);
+      in_hand = λ n h. in_hand_by f _ n x y x' y' (even f sized (leaves alike) v w long) (λ t e. (first_is f _ _ t e).collision) ex ey (sym er ∙ h);
       meets = λ ne e. let s = plain_binds f sized v w rs qs tt tt alike ne e in (length s.0.one, er ∙ ap found_len s.1);
     }
 
@@ -109,7 +109,7 @@ module _ (f : List ℕ → List ℕ) (rs rs' qs qs' : List Rung) (v w : List ℕ
         answer = s.answer ∙ ap found_len is;
         one = s.one ∙ ap (λ o. put_one o x) is;
         other = s.other ∙ ap (λ o. put_other o y) is;
-        in_hand_lem = s.in_hand_lem;
+        in_hand = s.in_hand;
         meets = λ ne e. (n, refl);
       }
 
@@ -127,7 +127,7 @@ module _ (f : List ℕ → List ℕ) (rs rs' qs qs' : List Rung) (v w : List ℕ
         answer = u.answer ∙ ap found_len is;
         one = u.one ∙ ap (λ o. put_one o x₁) is ∙ ap (put_one (found f (rs ++ qs) (rs' ++ qs') v w)) kept-one;
         other = u.other ∙ ap (λ o. put_other o y₁) is ∙ ap (put_other (found f (rs ++ qs) (rs' ++ qs') v w)) kept_other;
-        in_hand_lem = u.in_hand_lem;
+        in_hand = u.in_hand;
         meets = λ ne e.
             u.meets (λ q. let m = s.meets ne q in none_some m.0 m.1) (sym (climb_append plain_rule f rs qs v) ∙ e ∙ climb_append plain_rule f rs' qs' w);
       }

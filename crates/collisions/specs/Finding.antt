@@ -38,7 +38,7 @@ pub record Finds (f : List ℕ → List ℕ) (rs qs : List Rung) (v w : List ℕ
   pub answer : r ≡ found_len (found f rs qs v w)
   pub one : x' ≡ put_one (found f rs qs v w) x
   pub other : y' ≡ put_other (found f rs qs v w) y
-  pub in_hand_lem : (n : ℕ) → r ≡ Some n → InHand f n x' y'
+  pub in_hand : (n : ℕ) → r ≡ Some n → InHand f n x' y'
   pub meets : (v ≢ w) → climb plain_rule f rs v ≡ climb plain_rule f qs w → (n : ℕ) × (r ≡ Some n)
 
 -- What the buffers of the two ends, a and b before, hold after it: the ends where nothing was found.

@@ -2,14 +2,14 @@
 #![tactic(auto)]
 
 mod block;
-mod codes;
+mod encoding;
 mod hashes;
 mod shares;
 mod text;
 
 fn run(rt: &HostRuntime) -> anyhow::Result<()> {
     hashes::show(rt)?;
-    codes::show(rt)?;
+    encoding::show(rt)?;
     block::show(rt)
 }
 

@@ -32,4 +32,4 @@ denominator k p j = over mul 1 k (except 1 j (λ m. inv (bit_xor (p j) (p m))))
 
 -- from both factors, the weight of the share at place q in symbol i: at its own place it is 1
 abbrev pub weight_by : ℕ → ℕ → ℕ → ℕ → ℕ
-weight_by ofSymbol ofShare i q = cond (q == i) 1 (mul (mul ofSymbol (inv (bit_xor i q))) ofShare)
+weight_by of_symbol of_share i q = cond (q == i) 1 (mul (mul of_symbol (inv (bit_xor i q))) of_share)

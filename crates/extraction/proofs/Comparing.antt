@@ -61,7 +61,7 @@ module _ (h : Fields) (p : Proof) (formed : Formed h p) where
           answer = finds.answer ∙ ap found_len (sym is);
           one = finds.one ∙ ap (λ o. put_one o x) (sym is);
           other = finds.other ∙ ap (λ o. put_other o y) (sym is);
-          in_hand_lem = finds.in_hand_lem;
+          in_hand = finds.in_hand;
           meets = λ T d ext own condemns.
               let both = against_is (agrees h sq c) (λ v. vouches f h c v ≡ true) (case_of h p).witnesses w condemns.verified first in
               finds.meets (witness_differs f sized h wide sq long own c w formed.index_low sound_witness.place both.1)
@@ -80,7 +80,7 @@ module _ (h : Fields) (p : Proof) (formed : Formed h p) where
         answer = finds.answer ∙ ap found_len (sym is);
         one = finds.one ∙ ap (λ o. put_one o x) (sym is);
         other = finds.other ∙ ap (λ o. put_other o y) (sym is);
-        in_hand_lem = finds.in_hand_lem;
+        in_hand = finds.in_hand;
         meets = λ T d ext own condemns.
             finds.meets
             (claim_differs f sized h wide sq long own T d ext c p.witnesses.now formed.witnesses_long formed.index_low formed.places_low

@@ -91,6 +91,6 @@ pub record Compares (f : List ℕ → List ℕ) (h : Fields) (sq : List ℕ) (p 
   pub answer : r ≡ found_len (extracted f h sq p)
   pub one : x' ≡ put_one (extracted f h sq p) x
   pub other : y' ≡ put_other (extracted f h sq p) y
-  pub in_hand_lem : (n : ℕ) → r ≡ Some n → InHand f n x' y'
+  pub in_hand : (n : ℕ) → r ≡ Some n → InHand f n x' y'
   pub meets : (T : Table) (d : List ℕ) → Extended f T h d sq (roots_of f h sq) → h.data_root ≡ data_root_of f h (roots_of f h sq) → Condemns f T h p
       → (n : ℕ) × (r ≡ Some n)

@@ -4,14 +4,14 @@
 
 mod block;
 mod blocks;
-mod codes;
+mod codewords;
 mod digests;
 mod lines;
 mod refusals;
 mod text;
 
 use blocks::Blocks;
-use codes::Codes;
+use codewords::Codes;
 use digests::Digests;
 use lines::{Lines, compare};
 use std::fs;
