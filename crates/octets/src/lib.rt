@@ -2,5 +2,6 @@
 #![tactic(auto)]
 
 pub mod compare;
+pub mod misfit;
 pub mod splice;
 pub mod window;
