@@ -1,5 +1,6 @@
 // Climbs.
 ghost use Rattle.std.specs.Prelude.{◌*◌, ◌≤◌, length, cond, ◌≡◌};
+ghost use Rattle.std.specs.Result.{is_ok};
 ghost use Rattle.climbs.specs.Answers.{climb_leaf_fits, climb_node_fits, is_path};
 ghost use Rattle.hash.specs.Digests.{digest_len, parts_limit};
 ghost use Rattle.merkle.specs.Climb.{above, beside, climb_leaf, climb_node, plain_rule};
@@ -8,6 +9,7 @@ ghost use Rattle.merkle.specs.Tree.{side};
 use crate::node::{leaf_digest, parent_digest};
 use hash::digest::Hash;
 use hash::limits::{DIGEST_LEN, PARTS_LIMIT};
+use octets::misfit::Misfit;
 
 // Puts the node above `node` in its place.
 fn ascend<H: Hash>(node: &mut [u8], place: usize, sibling: &[u8])
@@ -42,16 +44,16 @@ fn is_path(len: usize) -> bool
 }
 
 // Climbs from `node`, which stands at `place`, by all digests of `path`, and leaves the end in `node`. Where `node` is no digest or
-// `path` no row of them, it answers false.
-pub fn climb<H: Hash>(node: &mut [u8], place: usize, path: &[u8]) -> bool
-    ensures answer { result ≡ climb_node_fits (length node.old) (length path.now) }
+// `path` no row of them, it refuses and writes nothing.
+pub fn climb<H: Hash>(node: &mut [u8], place: usize, path: &[u8]) -> Result<(), Misfit>
+    ensures answer { is_ok result ≡ climb_node_fits (length node.old) (length path.now) }
     ensures written { node.new ≡ cond (climb_node_fits (length node.old) (length path.now)) (climb_node H.meaning place path.now node.old) node.old }
 {
-    let fits = node.len() == DIGEST_LEN && is_path(path.len());
-    if fits {
-        climb_up::<H>(node, place, path);
+    if node.len() != DIGEST_LEN || !is_path(path.len()) {
+        return Err(Misfit);
     }
-    fits
+    climb_up::<H>(node, place, path);
+    Ok(())
 }
 
 fn climb_up_from_leaf<H: Hash>(value: &[u8], place: usize, path: &[u8], out: &mut [u8])
@@ -63,14 +65,19 @@ fn climb_up_from_leaf<H: Hash>(value: &[u8], place: usize, path: &[u8], out: &mu
 }
 
 // Climbs from the value of the leaf at `place` and writes the end. Where the value is too long, `out` is no digest or `path` no row of
-// them, it answers false.
-pub fn climb_leaf<H: Hash>(value: &[u8], place: usize, path: &[u8], out: &mut [u8]) -> bool
-    ensures answer { result ≡ climb_leaf_fits (length value.now) (length path.now) (length out.old) }
+// them, it refuses and writes nothing.
+pub fn climb_leaf<H: Hash>(
+    value: &[u8],
+    place: usize,
+    path: &[u8],
+    out: &mut [u8],
+) -> Result<(), Misfit>
+    ensures answer { is_ok result ≡ climb_leaf_fits (length value.now) (length path.now) (length out.old) }
     ensures written { out.new ≡ cond (climb_leaf_fits (length value.now) (length path.now) (length out.old)) (climb_leaf H.meaning place path.now value.now) out.old }
 {
-    let fits = value.len() <= PARTS_LIMIT && is_path(path.len()) && out.len() == DIGEST_LEN;
-    if fits {
-        climb_up_from_leaf::<H>(value, place, path, out);
+    if value.len() > PARTS_LIMIT || !is_path(path.len()) || out.len() != DIGEST_LEN {
+        return Err(Misfit);
     }
-    fits
+    climb_up_from_leaf::<H>(value, place, path, out);
+    Ok(())
 }

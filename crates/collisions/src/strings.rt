@@ -13,9 +13,9 @@ fn put_joined(lead: u8, left: &[u8], right: &[u8], out: &mut [u8])
     requires { length left.now + length right.now < length out.old }
     ensures { out.new ≡ at_front (lead ∷ (left.now ++ right.now)) out.old }
 {
-    splice(out, 0, &[lead]);
-    splice(out, 1, left);
-    splice(out, 1 + left.len(), right);
+    let _ = splice(out, 0, &[lead]);
+    let _ = splice(out, 1, left);
+    let _ = splice(out, 1 + left.len(), right);
 }
 
 // Writes what is hashed for a leaf.

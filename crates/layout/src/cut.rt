@@ -1,5 +1,6 @@
 // Cutting roots and paths from laid-out trees.
 ghost use Rattle.std.specs.Prelude.{◌≡◌, ◌+◌, ◌*◌, ◌^◌, ◌<◌, ◌≤◌, length};
+ghost use Rattle.std.specs.Result.{is_ok};
 ghost use Rattle.octets.specs.Splice.{over};
 ghost use Rattle.hash.specs.Digests.{digest_len};
 ghost use Rattle.layout.specs.Answers.{cut_path, cut_root, depth_limit, path_fits, root_fits};
@@ -9,6 +10,7 @@ ghost use Rattle.merkle.specs.Tree.{flip};
 
 use crate::size::{is_tree, leaves};
 use hash::limits::DIGEST_LEN;
+use octets::misfit::Misfit;
 use octets::splice::splice;
 
 // Copies entry `from` of a row of digests to entry `to` of another.
@@ -16,7 +18,7 @@ fn copy_entry(row: &[u8], from: usize, out: &mut [u8], to: usize)
     requires { (digest_len * from + digest_len ≤ length row.now) × (digest_len * to + digest_len ≤ length out.old) }
     ensures { out.new ≡ over (digest_len * to) (slot from row.now) out.old }
 {
-    splice(
+    let _ = splice(
         out,
         DIGEST_LEN * to,
         &row[DIGEST_LEN * from..DIGEST_LEN * from + DIGEST_LEN],
@@ -56,29 +58,27 @@ fn copy_root(tree: &[u8], depth: usize, out: &mut [u8])
     copy_entry(tree, 2 * leaves(depth) - 2, out, 0);
 }
 
-// Writes the root of a tree of this depth. Where the lengths do not fit, it answers false.
-pub fn tree_root(tree: &[u8], depth: usize, out: &mut [u8]) -> bool
-    ensures answer { result ≡ root_fits depth (length tree.now) (length out.old) }
+// Writes the root of a tree of this depth. Where the lengths do not fit, it refuses and writes nothing.
+pub fn tree_root(tree: &[u8], depth: usize, out: &mut [u8]) -> Result<(), Misfit>
+    ensures answer { is_ok result ≡ root_fits depth (length tree.now) (length out.old) }
     ensures written { out.new ≡ cut_root depth tree.now out.old }
 {
-    let fits = is_tree(depth, tree.len()) && out.len() == DIGEST_LEN;
-    if fits {
-        copy_root(tree, depth, out);
+    if !is_tree(depth, tree.len()) || out.len() != DIGEST_LEN {
+        return Err(Misfit);
     }
-    fits
+    copy_root(tree, depth, out);
+    Ok(())
 }
 
 // Writes the path of the leaf at `place` in a tree of this depth, siblings from the bottom up. Where there is no such leaf or the
-// lengths do not fit, it answers false.
-pub fn tree_path(tree: &[u8], depth: usize, place: usize, out: &mut [u8]) -> bool
-    ensures answer { result ≡ path_fits depth place (length tree.now) (length out.old) }
+// lengths do not fit, it refuses and writes nothing.
+pub fn tree_path(tree: &[u8], depth: usize, place: usize, out: &mut [u8]) -> Result<(), Misfit>
+    ensures answer { is_ok result ≡ path_fits depth place (length tree.now) (length out.old) }
     ensures written { out.new ≡ cut_path depth place tree.now out.old }
 {
-    let fits = is_tree(depth, tree.len())
-        && place < leaves(depth)
-        && out.len() == DIGEST_LEN * depth;
-    if fits {
-        copy_path(tree, depth, leaves(depth), place, out);
+    if !is_tree(depth, tree.len()) || place >= leaves(depth) || out.len() != DIGEST_LEN * depth {
+        return Err(Misfit);
     }
-    fits
+    copy_path(tree, depth, leaves(depth), place, out);
+    Ok(())
 }

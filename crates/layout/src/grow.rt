@@ -1,5 +1,6 @@
 // Growing a tree from its leaves.
 ghost use Rattle.std.specs.Prelude.{◌≡◌, ◌+◌, ◌*◌, ◌^◌, ◌<◌, ◌≤◌, length};
+ghost use Rattle.std.specs.Result.{is_ok};
 ghost use Rattle.octets.specs.Splice.{over};
 ghost use Rattle.hash.specs.Digests.{digest_len};
 ghost use Rattle.layout.specs.Answers.{grown, is_tree};
@@ -10,6 +11,7 @@ use crate::size::{is_tree, leaves};
 use climbs::node::node_digest;
 use hash::digest::Hash;
 use hash::limits::DIGEST_LEN;
+use octets::misfit::Misfit;
 use octets::splice::splice;
 
 // Writes the node over entries 2i and 2i + 1 to entry `to`.
@@ -24,7 +26,7 @@ fn join_pair<H: Hash>(tree: &mut [u8], i: usize, to: usize)
         &tree[at + DIGEST_LEN..at + 2 * DIGEST_LEN],
         &mut node,
     );
-    splice(tree, DIGEST_LEN * to, &node);
+    let _ = splice(tree, DIGEST_LEN * to, &node);
 }
 
 // Writes the entries behind the first `n`, which are the leaves.
@@ -38,14 +40,14 @@ fn join_all<H: Hash>(tree: &mut [u8], depth: usize, n: usize)
 }
 
 // Writes all entries of a tree of this depth but its leaves' digests, which stand in front. Where the buffer has not the length of
-// such a tree, it answers false.
-pub fn grow<H: Hash>(tree: &mut [u8], depth: usize) -> bool
-    ensures answer { result ≡ is_tree depth (length tree.old) }
+// such a tree, it refuses and writes nothing.
+pub fn grow<H: Hash>(tree: &mut [u8], depth: usize) -> Result<(), Misfit>
+    ensures answer { is_ok result ≡ is_tree depth (length tree.old) }
     ensures written { tree.new ≡ grown H.meaning depth tree.old }
 {
-    let fits = is_tree(depth, tree.len());
-    if fits {
-        join_all::<H>(tree, depth, leaves(depth));
+    if !is_tree(depth, tree.len()) {
+        return Err(Misfit);
     }
-    fits
+    join_all::<H>(tree, depth, leaves(depth));
+    Ok(())
 }
