@@ -1,4 +1,8 @@
 // Why a call on headers, squares, evidence or images is refused.
+ghost use Rattle.header.specs.declared.refusal.SquareRefusal.TheVariants.{WrongLength};
+ghost use Rattle.std.specs.Prelude.{◌≡◌};
+
+use octets::misfit::Misfit;
 use std::error::Error;
 use std::fmt;
 
@@ -34,3 +38,12 @@ impl fmt::Display for SquareRefusal {
 }
 
 impl Error for SquareRefusal {}
+
+// Sizes that do not fit are lengths.
+impl From<Misfit> for SquareRefusal {
+    ghost from_gives = { λ _ e. e ≡ WrongLength };
+
+    fn from(_misfit: Misfit) -> SquareRefusal {
+        SquareRefusal::WrongLength
+    }
+}
