@@ -7,36 +7,32 @@ ghost use Rattle.codes.specs.Grid.{GridLaw, SquareValues};
 ghost use Rattle.codes.specs.Values.{Values};
 
 // The polynomial code has the two laws, recovers by its weights, and its symbols are the values of a polynomial.
-pub fn polynomial_stands() -> u8
+pub fn polynomial_stands()
     ensures first { FirstLaw polynomial }
     ensures second { SecondLaw polynomial }
     ensures weights { WeightLaw polynomial (scaled_weight plain_scale) }
     ensures words { PolynomialLaw }
 {
-    0
 }
 
 // The Cauchy code has the two laws, recovers by its weights, and its symbols are the sums of quotients.
-pub fn cauchy_stands() -> u8
+pub fn cauchy_stands()
     ensures first { FirstLaw cauchy }
     ensures second { SecondLaw cauchy }
     ensures weights { WeightLaw cauchy (scaled_weight cauchy_scale) }
     ensures words { CauchyLaw }
 {
-    0
 }
 
 // Of any table, rows and then columns give what columns and then rows give.
-pub fn grid_stands() -> u8
+pub fn grid_stands()
     ensures law { GridLaw }
     ensures values { SquareValues }
 {
-    0
 }
 
 // Worked values.
-pub fn values_stand() -> u8
+pub fn values_stand()
     ensures { Values }
 {
-    0
 }

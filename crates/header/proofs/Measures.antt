@@ -1,12 +1,12 @@
 -- What follows of the lengths of a block from an allowed k and an allowed share size.
-use Rattle.std.proofs.Common.{◌≡◌, ℕ, ◌+◌, ◌-◌, ◌*◌, ◌^◌, ◌≤◌, Bool, true, ◌||◌, eqb, sym, refl, ap, ◌∙◌, subst, inl, inr, pow-suc, add-one, arith}
-use Rattle.std.proofs.lemmas.Nat.{mul-le}
+use Rattle.std.proofs.Common.{◌≡◌, ℕ, ◌+◌, ◌-◌, ◌*◌, ◌^◌, ◌<◌, ◌≤◌, Bool, true, ◌||◌, eqb, sym, refl, ap, ◌∙◌, subst, inl, inr, pow-suc, add-one, arith}
+use Rattle.std.proofs.lemmas.Nat.{mul-le, mul-add-lt}
 use Rattle.std.proofs.lemmas.Bool.{or_cases, eqb-true}
 use Rattle.std.proofs.lemmas.Bool.Decides.{nat_tests}
 use Rattle.erasure.specs.Limits.{ok_width, ok_size}
 use Rattle.erasure.proofs.Bounds.{width_most, width_some, size_most, size_some}
 use Rattle.header.specs.Fields.{Fields}
-use Rattle.header.specs.Sizes.{width, depth_of, cell_count, square_len, lengths_of}
+use Rattle.header.specs.Sizes.{width, depth_of, cell_count, square_len, lengths_of, has_cell, cell_number}
 use Rattle.header.specs.declared.lengths.Lengths.{Lengths}
 use Rattle.hash.specs.Digests.{digest_len}
 
@@ -48,6 +48,13 @@ cells_most h w = let m = width_most h.k w in mul-le (width h) (width h) 64 64 (o
 
 pub square_most : (h : Fields) → Allowed h → square_len h ≤ 2097152
 square_most h a = mul-le (cell_count h) h.s 4096 512 (cells_most h a.wide) (size_most h.s a.sized)
+
+-- the number of a cell that is inside
+pub number_inside : (h : Fields) (r c : ℕ) → has_cell h r c ≡ true → cell_number h r c < cell_count h
+number_inside h r c e = mul-add-lt r (width h) c (width h) (grind (arith, nat_tests)) (grind (arith, nat_tests))
+
+pub number_low : (h : Fields) → ok_width h.k ≡ true → (r c : ℕ) → has_cell h r c ≡ true → cell_number h r c < 4096
+number_low h w r c e = omega (arith, number_inside h r c e, cells_most h w)
 
 -- what a caller needs of the lengths of a block
 pub record Measured (m : Lengths) : Type 0 where

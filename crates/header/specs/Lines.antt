@@ -1,7 +1,15 @@
 -- Cells and lines. A line is a row or a column, named by an axis and an index; it has a cell at each of its places.
-use Rattle.std.specs.Prelude.{ℕ}
+use Rattle.std.specs.Prelude.{ℕ, cond, ◌==◌}
 use Rattle.header.specs.declared.cell.Axis.{Axis}
 use Rattle.header.specs.declared.cell.Axis.TheVariants.{Row, Column}
+
+-- the axis that a byte of 0 or 1 names, and the byte that names an axis
+abbrev pub axis_by : ℕ → Axis
+axis_by a = cond (a == 0) Row Column
+
+abbrev pub axis_byte : Axis → ℕ
+axis_byte Row = 0
+axis_byte Column = 1
 
 -- the index of the line of cell (r, c) along an axis
 abbrev pub line_of : Axis → ℕ → ℕ → ℕ

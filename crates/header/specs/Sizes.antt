@@ -1,5 +1,5 @@
 -- Every length that belongs to a block, each given once, as a function of the header's fields.
-use Rattle.std.specs.Prelude.{ℕ, ◌+◌, ◌-◌, ◌*◌, Bool, cond, ◌&&◌, ◌==◌, nat_lt}
+use Rattle.std.specs.Prelude.{ℕ, ◌+◌, ◌-◌, ◌*◌, Bool, cond, ◌&&◌, ◌==◌, Some, None, Option, nat_lt}
 use Rattle.hash.specs.Digests.{digest_len}
 use Rattle.header.specs.Fields.{Fields}
 use Rattle.header.specs.declared.cell.Axis.{Axis}
@@ -46,6 +46,10 @@ data_path_len h = digest_len * (depth h + 1)
 
 abbrev pub path_len : Fields → ℕ
 path_len h = digest_len * (2 * depth h + 1)
+
+-- a share and a path of an evidence
+abbrev pub evidence_fits : Fields → ℕ → ℕ → Bool
+evidence_fits h n m = n == h.s && m == path_len h
 
 -- a tree of n leaves has 2n - 1 nodes
 abbrev pub axis_tree_len : Fields → ℕ
@@ -127,6 +131,10 @@ has_cell h r c = nat_lt r (width h) && nat_lt c (width h)
 -- the number of a cell: squares and marks go row by row
 abbrev pub cell_number : Fields → ℕ → ℕ → ℕ
 cell_number h r c = r * width h + c
+
+-- the number of a cell that is inside
+abbrev pub number_of : Fields → ℕ → ℕ → Option ℕ
+number_of h r c = cond (has_cell h r c) (Some (cell_number h r c)) None
 
 -- in a square of width w, the number of the line with index i along an axis, which is also its leaf in the data tree: rows first, then
 -- columns

@@ -1,3 +1,5 @@
+ghost use Rattle.std.specs.Prelude.{◌≡◌, ◌&&◌, ◌==◌};
+
 // The lengths of everything that belongs to a block, in bytes but for the first four.
 #[derive(Clone, Copy)]
 pub struct Lengths {
@@ -32,4 +34,13 @@ pub struct Lengths {
     pub proof: usize,
     // Each of the two strings of a collision.
     pub string: usize,
+}
+
+impl Lengths {
+    // Whether a share and a path of so many bytes are of the block.
+    pub fn is_evidence(&self, share: usize, path: usize) -> bool
+        ensures { result ≡ (share == self.now.share && path == self.now.path) }
+    {
+        share == self.share && path == self.path
+    }
 }

@@ -1,6 +1,6 @@
 // The one way to a header.
 ghost use Rattle.octets.specs.Outcome.{outcome_by};
-ghost use Rattle.header.specs.Fields.{fields_of, header_outcome};
+ghost use Rattle.header.specs.Fields.{fields_of, header_outcome, shape};
 ghost use Rattle.header.specs.Refusals.{told};
 ghost use Rattle.std.specs.Prelude.{◌≡◌};
 
@@ -37,6 +37,28 @@ pub fn make_header(
         code_kind,
         data_root: root,
     })
+}
+
+impl Header {
+    // The header of the smallest block, without kinds and root.
+    pub fn smallest() -> Header
+        ensures { fields_of result ≡ shape 1 1 }
+    {
+        Header {
+            k: 1,
+            s: 1,
+            hash_kind: 0,
+            code_kind: 0,
+            data_root: [0u8; DIGEST_LEN],
+        }
+    }
+
+    // A header of this k and this share size, for lengths and cells alone.
+    pub fn of_shape(k: usize, s: usize) -> Result<Header, SquareRefusal>
+        ensures { outcome_by fields_of told result ≡ header_outcome (shape k s) }
+    {
+        make_header(k, s, 0, 0, &[0u8; DIGEST_LEN])
+    }
 }
 
 impl SquareRefusal {

@@ -1,9 +1,9 @@
 // Lengths and cells of the block that a header names.
-ghost use Rattle.std.specs.Prelude.{◌≡◌, ℕ, ◌+◌, ◌*◌, ◌^◌, ◌<◌, ◌≤◌};
+ghost use Rattle.std.specs.Prelude.{◌≡◌, ℕ, ◌+◌, ◌*◌, ◌^◌, ◌<◌, ◌≤◌, IfSome};
 ghost use Rattle.header.specs.Fields.{fields_of};
-ghost use Rattle.header.specs.Sizes.{depth, has_cell, lengths_of, width};
+ghost use Rattle.header.specs.Sizes.{cell_count, depth, has_cell, lengths_of, line_number, number_of, width};
 
-use crate::cell::Cell;
+use crate::cell::{Axis, Cell};
 use crate::header::Header;
 use crate::lengths::Lengths;
 use hash::limits::DIGEST_LEN;
@@ -71,5 +71,27 @@ impl Header {
     {
         let width = 2 * self.k as usize;
         (cell.row as usize) < width && (cell.col as usize) < width
+    }
+
+    // The number of a cell, row by row; none where it is outside the square.
+    pub fn cell_number(&self, cell: Cell) -> Option<usize>
+        ensures value { result ≡ number_of (fields_of self.now) cell.row cell.col }
+        ensures inside { IfSome result (λ n. n < cell_count (fields_of self.now)) }
+        ensures few { IfSome result (λ n. n < 4096) }
+    {
+        if !self.has_cell(cell) {
+            return None;
+        }
+        Some(cell.row as usize * (2 * self.k as usize) + cell.col as usize)
+    }
+
+    // The number of the line with this index along an axis, which is its leaf in the data tree.
+    pub fn line_number(&self, axis: Axis, index: u16) -> usize
+        ensures { result ≡ line_number (fields_of self.now) axis index }
+    {
+        match axis {
+            Axis::Row => index as usize,
+            Axis::Column => 2 * self.k as usize + index as usize,
+        }
     }
 }
