@@ -1,3 +1,4 @@
+pub mod Kinds
 pub mod Parts
 pub mod Reading
 pub mod Refusals

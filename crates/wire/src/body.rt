@@ -4,9 +4,10 @@ ghost use Rattle.hash.specs.Digests.{digest_len};
 ghost use Rattle.header.specs.Fields.{fields_of};
 ghost use Rattle.header.specs.Sizes.{claim_body, group_body, header_body, share_body, witness_body};
 ghost use Rattle.wire.specs.Parts.{Begins, value_of};
-ghost use Rattle.wire.specs.Reading.{body_for, claim_in, group_in, header_in, is_known, record_in, share_in, witness_in};
+ghost use Rattle.wire.specs.Kinds.{code_of};
+ghost use Rattle.wire.specs.Reading.{body_for, claim_in, group_in, header_in, record_in, share_in, witness_in};
 
-use crate::kind::{CLAIM, GROUP, GROUP_END, HEADER, ROOTS, SHARE};
+use crate::kind::Kind;
 use crate::record::Record;
 use hash::limits::DIGEST_LEN;
 use header::header::Header;
@@ -63,6 +64,7 @@ fn claim_in<'a>(h: &Header, body: &'a [u8]) -> Record<'a>
     }
 }
 
+#[tactic(auto, using(crate::proofs::Slices::first_part, crate::proofs::Slices::second_part))]
 fn witness_in<'a>(h: &Header, body: &'a [u8]) -> Record<'a>
     requires { length body.now ≡ witness_body (fields_of h.now) }
     ensures value { value_of result ≡ witness_in (fields_of h.now) body.now }
@@ -77,19 +79,20 @@ fn witness_in<'a>(h: &Header, body: &'a [u8]) -> Record<'a>
     }
 }
 
-// The record of a known kind whose body has the length of that kind.
-pub(crate) fn record_in<'a>(h: &Header, kind: u16, body: &'a [u8]) -> Record<'a>
-    requires { (is_known kind ≡ true) × (length body.now ≡ body_for (fields_of h.now) kind) }
-    ensures value { value_of result ≡ record_in (fields_of h.now) kind body.now }
+// The record of a kind whose body has the length of that kind.
+#[tactic(auto, unfolding(crate::specs::Reading::body_for, crate::specs::Reading::record_in))]
+pub(crate) fn record_in<'a>(h: &Header, kind: Kind, body: &'a [u8]) -> Record<'a>
+    requires { length body.now ≡ body_for (fields_of h.now) (code_of kind) }
+    ensures value { value_of result ≡ record_in (fields_of h.now) (code_of kind) body.now }
     ensures place { Begins (fields_of h.now) body.entry.ref_ptr result }
 {
     match kind {
-        HEADER => header_in(h, body),
-        ROOTS => Record::Roots(body),
-        GROUP => group_in(h, body),
-        SHARE => share_in(h, body),
-        GROUP_END => Record::GroupEnd,
-        CLAIM => claim_in(h, body),
-        _ => witness_in(h, body),
+        Kind::Header => header_in(h, body),
+        Kind::Roots => Record::Roots(body),
+        Kind::Group => group_in(h, body),
+        Kind::Share => share_in(h, body),
+        Kind::GroupEnd => Record::GroupEnd,
+        Kind::Claim => claim_in(h, body),
+        Kind::Witness => witness_in(h, body),
     }
 }

@@ -11,6 +11,7 @@ use hash::limits::DIGEST_LEN;
 use header::header::Header;
 
 // Whether an axis is at most 1, an index and a place are below the width, and k and s of a header record are allowed.
+#[tactic(auto, using(std::proofs::lemmas::Bool::Decides::nat_tests, erasure::proofs::Bounds::width_most), unfolding(crate::specs::Reading::in_range))]
 pub(crate) fn in_range(h: &Header, item: &Record) -> bool
     ensures { result ≡ in_range (fields_of h.now) (value_of item.now) }
 {
@@ -27,6 +28,7 @@ pub(crate) fn in_range(h: &Header, item: &Record) -> bool
 }
 
 // Whether shares, paths and roots have the block's lengths.
+#[tactic(auto, using(std::proofs::lemmas::Bool::Decides::nat_tests), unfolding(crate::specs::Writing::parts_fit))]
 pub(crate) fn parts_fit(h: &Header, item: &Record) -> bool
     ensures { result ≡ parts_fit (fields_of h.now) (value_of item.now) }
 {

@@ -29,11 +29,11 @@ pub fn read_due<'a>(h: &Header, due: Due, bytes: &'a [u8]) -> Result<(Record<'a>
         return Err(Fault::CutShort);
     };
     let len = u32::from_le_bytes([*l0, *l1, *l2, *l3]) as usize;
-    let kind = u16::from_le_bytes([*k0, *k1]);
+    let code = u16::from_le_bytes([*k0, *k1]);
     if rest.len() < len {
         return Err(Fault::CutShort);
     }
-    admit(h, due, kind, len)?;
+    let kind = admit(h, due, code, len)?;
     let item = record_in(h, kind, &rest[0..len]);
     if !in_range(h, &item) {
         return Err(Fault::OutOfRange);
@@ -68,8 +68,5 @@ pub fn read_at<'a>(
             at,
         });
     }
-    match read_due(h, due, rest) {
-        Ok(read) => Ok(read),
-        Err(fault) => Err(ReadRefusal { fault, at }),
-    }
+    read_due(h, due, rest).map_err(|fault| ReadRefusal { fault, at })
 }

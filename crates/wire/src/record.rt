@@ -1,6 +1,6 @@
 // A record as parts of the bytes that it was read from.
 
-// Numbers stand as they are; shares, paths and roots are lent.
+// Numbers stand as they are, and an axis stays a byte, since a writer has to refuse one over 1; shares, paths and roots are lent.
 #[derive(Clone, Copy)]
 pub enum Record<'a> {
     Header {

@@ -4,28 +4,30 @@ ghost use Rattle.octets.specs.Outcome.{outcome};
 ghost use Rattle.octets.specs.Written.{written};
 ghost use Rattle.header.specs.Fields.{fields_of};
 ghost use Rattle.header.specs.Sizes.{head_len};
+ghost use Rattle.wire.specs.Kinds.{code_of};
 ghost use Rattle.wire.specs.Parts.{value_of};
 ghost use Rattle.wire.specs.Refusals.{told_write};
 ghost use Rattle.wire.specs.Writing.{ReadsBack, body_of, bytes_of, framed, head_of, kind_of, target_fits, write_outcome};
 
-use crate::kind::{CLAIM, GROUP, GROUP_END, HEADER, ROOTS, SHARE, WITNESS, body_len};
+use crate::kind::Kind;
 use crate::range::{in_range, parts_fit};
 use crate::record::Record;
 use crate::refusal::WriteRefusal;
 use header::header::Header;
 
-// The kind of a record.
-fn kind_of(item: &Record) -> u16
-    ensures { result ≡ kind_of (value_of item.now) }
-{
-    match *item {
-        Record::Header { .. } => HEADER,
-        Record::Roots(_) => ROOTS,
-        Record::Group { .. } => GROUP,
-        Record::Share { .. } => SHARE,
-        Record::GroupEnd => GROUP_END,
-        Record::Claim { .. } => CLAIM,
-        Record::Witness { .. } => WITNESS,
+impl<'a> Record<'a> {
+    fn kind(&self) -> Kind
+        ensures { code_of result ≡ kind_of (value_of self.now) }
+    {
+        match *self {
+            Record::Header { .. } => Kind::Header,
+            Record::Roots(_) => Kind::Roots,
+            Record::Group { .. } => Kind::Group,
+            Record::Share { .. } => Kind::Share,
+            Record::GroupEnd => Kind::GroupEnd,
+            Record::Claim { .. } => Kind::Claim,
+            Record::Witness { .. } => Kind::Witness,
+        }
     }
 }
 
@@ -33,44 +35,36 @@ fn kind_of(item: &Record) -> u16
 fn target_fits(h: &Header, item: &Record, room: usize) -> bool
     ensures { result ≡ target_fits (fields_of h.now) (value_of item.now) room }
 {
-    let whole = 6 + body_len(h, kind_of(item));
+    let whole = 6 + item.kind().body_len(h);
     parts_fit(h, item) && room == whole
 }
 
-// Copies a part into a target, and answers the place behind it.
-fn put(out: &mut [u8], at: usize, part: &[u8]) -> usize
-    requires { at + length part.now ≤ length out.old }
-    ensures place { result ≡ at + length part.now }
-    ensures front { take result out.new ≡ take at out.old ++ part.now }
-{
-    let end = at + part.len();
-    out[at..end].copy_from_slice(part);
-    end
-}
-
 // The six bytes before a body.
-fn head(len: u32, kind: u16) -> [u8; 6]
-    ensures { result ≡ head_of len kind }
+fn head(len: u32, kind: Kind) -> [u8; 6]
+    ensures { result ≡ head_of len (code_of kind) }
 {
     let [l0, l1, l2, l3] = len.to_le_bytes();
-    let [k0, k1] = kind.to_le_bytes();
+    let [k0, k1] = u16::from(kind).to_le_bytes();
     [l0, l1, l2, l3, k0, k1]
 }
 
 // Writes a record of this kind whose body is some numbers and then two parts.
-fn put_parts(out: &mut [u8], kind: u16, numbers: &[u8], first: &[u8], second: &[u8])
+fn put_parts(out: &mut [u8], kind: Kind, numbers: &[u8], first: &[u8], second: &[u8])
     requires { (length numbers.now + length first.now + length second.now < 2 ^ 32) × (length out.old ≡ head_len + (length numbers.now + length first.now + length second.now)) }
-    ensures { out.new ≡ framed kind (numbers.now ++ (first.now ++ second.now)) }
+    ensures { out.new ≡ framed (code_of kind) (numbers.now ++ (first.now ++ second.now)) }
 {
     let len = numbers.len() + first.len() + second.len();
-    let front = head(len as u32, kind);
-    let at = put(out, 0, &front);
-    let at = put(out, at, numbers);
-    let at = put(out, at, first);
-    put(out, at, second);
+    let (front, body) = out.split_at_mut(6);
+    front.copy_from_slice(&head(len as u32, kind));
+    let (values, parts) = body.split_at_mut(numbers.len());
+    values.copy_from_slice(numbers);
+    let (left, right) = parts.split_at_mut(first.len());
+    left.copy_from_slice(first);
+    right.copy_from_slice(second);
 }
 
 // Writes a record to a target of its length.
+#[tactic(auto, unfolding(crate::specs::Writing::bytes_of))]
 fn put_record(item: &Record, out: &mut [u8])
     requires { (length (body_of (value_of item.now)) < 2 ^ 32) × (length out.old ≡ head_len + length (body_of (value_of item.now))) }
     ensures { out.new ≡ bytes_of (value_of item.now) }
@@ -86,18 +80,18 @@ fn put_record(item: &Record, out: &mut [u8])
             let [k0, k1] = k.to_le_bytes();
             let [s0, s1] = s.to_le_bytes();
             let numbers = [k0, k1, s0, s1, hash_kind, code_kind];
-            put_parts(out, HEADER, &numbers, data_root, &[])
+            put_parts(out, Kind::Header, &numbers, data_root, &[])
         }
-        Record::Roots(roots) => put_parts(out, ROOTS, &[], roots, &[]),
+        Record::Roots(roots) => put_parts(out, Kind::Roots, &[], roots, &[]),
         Record::Group { axis, index } => {
             let [i0, i1] = index.to_le_bytes();
-            put_parts(out, GROUP, &[axis, i0, i1], &[], &[])
+            put_parts(out, Kind::Group, &[axis, i0, i1], &[], &[])
         }
         Record::Share { place, share, path } => {
             let [p0, p1] = place.to_le_bytes();
-            put_parts(out, SHARE, &[p0, p1], share, path)
+            put_parts(out, Kind::Share, &[p0, p1], share, path)
         }
-        Record::GroupEnd => put_parts(out, GROUP_END, &[], &[], &[]),
+        Record::GroupEnd => put_parts(out, Kind::GroupEnd, &[], &[], &[]),
         Record::Claim {
             axis,
             index,
@@ -105,7 +99,7 @@ fn put_record(item: &Record, out: &mut [u8])
             path,
         } => {
             let [i0, i1] = index.to_le_bytes();
-            put_parts(out, CLAIM, &[axis, i0, i1], root, path)
+            put_parts(out, Kind::Claim, &[axis, i0, i1], root, path)
         }
         Record::Witness {
             place,
@@ -114,7 +108,7 @@ fn put_record(item: &Record, out: &mut [u8])
             path,
         } => {
             let [p0, p1] = place.to_le_bytes();
-            put_parts(out, WITNESS, &[p0, p1, axis], share, path)
+            put_parts(out, Kind::Witness, &[p0, p1, axis], share, path)
         }
     }
 }
