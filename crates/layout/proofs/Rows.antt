@@ -1,14 +1,18 @@
 -- Rows of digests, written one by one.
-use Rattle.std.proofs.Common.{◌≡◌, ℕ, suc, ◌+◌, ◌-◌, ◌*◌, ◌/◌, ◌^◌, ◌<◌, ◌≤◌, List, ◌++◌, length, take, drop, sym, ap, ◌∙◌, inl, inr, pow-suc, arith, length-drop}
+use Rattle.std.proofs.Common.{◌≡◌, ℕ, suc, ◌+◌, ◌-◌, ◌*◌, ◌/◌, ◌^◌, ◌<◌, ◌≤◌, true, false, ◌&&◌, List, [], ◌++◌, get_or, Some, None, Option, MatchOption, Bor, length, take, drop, sym, ap, ◌∙◌, inl, inr, pow-suc, arith, length-drop}
 use Rattle.std.proofs.lemmas.List.{drop-append-le, take-append-le, drop_at, take_at, take_all, drop_all, take-append-drop, append_assoc, append-nil, length-take-le}
-use Rattle.std.proofs.lemmas.Bool.{cases_eq}
+use Rattle.std.proofs.lemmas.Bool.{cases_eq, cond-true, le-leb, lt-leb}
+use Rattle.std.specs.List.{HoldsAt}
+use Rattle.std.specs.Simd.{first_chunks}
 use Rattle.octets.specs.Splice.{over, spliced}
 use Rattle.octets.proofs.Splices.{spliced_in, take_over}
 use Rattle.hash.specs.Digests.{digest_len}
 use Rattle.merkle.specs.Tree.{flip}
-use Rattle.merkle.specs.Climb.{Node, slot}
+use Rattle.merkle.specs.Climb.{Node, plain_rule, join_of, slot}
 use Rattle.merkle.specs.Layout.{path_of, tree_layout, tree_len}
+use Rattle.merkle.proofs.Chunks.{chunks_count, chunk_at}
 use Rattle.merkle.proofs.Climbing.{node_start}
+use Rattle.layout.specs.Answers.{has_entry, put_at, copied, joined}
 use Rattle.merkle.proofs.Layouts.{levels_by, path_more, path_none}
 
 slot_front : (j : ℕ) (xs ys : List ℕ) → digest_len * j + digest_len ≤ length xs → slot j (xs ++ ys) ≡ slot j xs
@@ -110,3 +114,30 @@ path_end d h p s xs out all l long inv =
 -- a digest written over a whole buffer
 pub entry_whole : (part out : List ℕ) → length part ≡ length out → over (digest_len * 0) part out ≡ part
 entry_whole part out h = ap (λ z. part ++ z) (drop_all (0 + length part) out (omega arith)) ∙ append-nil part
+
+-- what is lent of a row as its entry i
+pub entry_lent : (i : ℕ) (row : List ℕ) (chunks : List (List ℕ)) (r : Option (Bor (List ℕ))) → chunks ≡ first_chunks digest_len (length row / digest_len) row
+    → MatchOption r (length chunks ≤ i) (λ x. (i < length chunks) × HoldsAt (λ y. x.now ≡ y) chunks i)
+    → MatchOption r (has_entry i (length row) ≡ false) (λ x. (has_entry i (length row) ≡ true) × (x.now ≡ slot i row))
+entry_lent i row chunks None e h =
+    let n = ap length e ∙ chunks_count (length row / digest_len) row in
+    lt-leb (digest_len * i + digest_len) (length row) (omega arith)
+entry_lent i row chunks (Some x) e h =
+    let n = ap length e ∙ chunks_count (length row / digest_len) row in (
+      le-leb (digest_len * i + digest_len) (length row) (omega arith),
+      h.1 [] ∙ ap (λ c. get_or c i []) e ∙ chunk_at (length row / digest_len) i row [] (omega arith),
+    )
+
+-- where the entries are there, they are copied and joined
+pub copied_in : (i k : ℕ) (row out : List ℕ) → digest_len * i + digest_len ≤ length row → digest_len * k + digest_len ≤ length out → copied i row k out ≡ over (digest_len * k) (slot i row) out
+copied_in i k row out h l =
+    cond-true (has_entry i (length row)) (put_at k (slot i row) out) out (le-leb (digest_len * i + digest_len) (length row) h)
+    ∙ cond-true (has_entry k (length out)) (over (digest_len * k) (slot i row) out) out (le-leb (digest_len * k + digest_len) (length out) l)
+
+pub joined_in : (f : List ℕ → List ℕ) (i j k : ℕ) (row : List ℕ) → digest_len * i + digest_len ≤ length row → digest_len * j + digest_len ≤ length row → digest_len * k + digest_len ≤ length row
+    → joined f i j k row ≡ over (digest_len * k) (join_of plain_rule f (slot i row) (slot j row)) row
+joined_in f i j k row h g l =
+    let node = join_of plain_rule f (slot i row) (slot j row) in
+    cond-true (has_entry i (length row) && has_entry j (length row)) (put_at k node row) row
+    (ap (λ b. b && has_entry j (length row)) (le-leb (digest_len * i + digest_len) (length row) h) ∙ le-leb (digest_len * j + digest_len) (length row) g)
+    ∙ cond-true (has_entry k (length row)) (over (digest_len * k) node row) row (le-leb (digest_len * k + digest_len) (length row) l)

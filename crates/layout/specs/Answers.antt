@@ -1,7 +1,8 @@
 -- What the calls on laid-out trees answer and write.
-use Rattle.std.specs.Prelude.{ℕ, ◌*◌, ◌^◌, Bool, cond, ◌&&◌, List, length, ◌==◌, nat_le, nat_lt}
+use Rattle.std.specs.Prelude.{ℕ, ◌+◌, ◌*◌, ◌^◌, Bool, cond, ◌&&◌, List, length, ◌==◌, nat_le, nat_lt}
+use Rattle.octets.specs.Splice.{over}
 use Rattle.hash.specs.Digests.{digest_len}
-use Rattle.merkle.specs.Climb.{plain_rule, join_of, slot}
+use Rattle.merkle.specs.Climb.{Node, plain_rule, join_of, slot}
 use Rattle.merkle.specs.Layout.{tree_layout, tree_len, root_of, path_of}
 
 -- the most levels that a tree has above its leaves
@@ -33,3 +34,18 @@ path_fits d p n m = is_tree d n && nat_lt p (2 ^ d) && m == digest_len * d
 
 abbrev pub cut_path : ℕ → ℕ → List ℕ → List ℕ → List ℕ
 cut_path d p xs out = cond (path_fits d p (length xs) (length out)) (path_of d p xs) out
+
+-- a row of n bytes has an entry i
+abbrev pub has_entry : ℕ → ℕ → Bool
+has_entry i n = nat_le (digest_len * i + digest_len) n
+
+-- a row of digests after one was written as entry i, where there is such an entry
+abbrev pub put_at : ℕ → Node → List ℕ → List ℕ
+put_at i node out = cond (has_entry i (length out)) (over (digest_len * i) node out) out
+
+-- the same after entry i of a row was copied to entry k, and after entries i and j were joined to entry k
+abbrev pub copied : ℕ → List ℕ → ℕ → List ℕ → List ℕ
+copied i row k out = cond (has_entry i (length row)) (put_at k (slot i row) out) out
+
+abbrev pub joined : (List ℕ → List ℕ) → ℕ → ℕ → ℕ → List ℕ → List ℕ
+joined f i j k row = cond (has_entry i (length row) && has_entry j (length row)) (put_at k (join_of plain_rule f (slot i row) (slot j row)) row) row

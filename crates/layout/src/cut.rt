@@ -8,22 +8,10 @@ ghost use Rattle.merkle.specs.Climb.{slot};
 ghost use Rattle.merkle.specs.Layout.{path_of, root_of, tree_len};
 ghost use Rattle.merkle.specs.Tree.{flip};
 
+use crate::entry::copy_entry;
 use crate::size::{is_tree, leaves};
 use hash::limits::DIGEST_LEN;
 use octets::misfit::Misfit;
-use octets::splice::splice;
-
-// Copies entry `from` of a row of digests to entry `to` of another.
-fn copy_entry(row: &[u8], from: usize, out: &mut [u8], to: usize)
-    requires { (digest_len * from + digest_len ≤ length row.now) × (digest_len * to + digest_len ≤ length out.old) }
-    ensures { out.new ≡ over (digest_len * to) (slot from row.now) out.old }
-{
-    let _ = splice(
-        out,
-        DIGEST_LEN * to,
-        &row[DIGEST_LEN * from..DIGEST_LEN * from + DIGEST_LEN],
-    );
-}
 
 // The place of a node's sibling.
 fn sibling(place: usize) -> usize
@@ -43,7 +31,7 @@ fn copy_path(tree: &[u8], depth: usize, n: usize, place: usize, out: &mut [u8])
     let mut start = 0;
     let mut width = n;
     for h in 0..depth {
-        copy_entry(tree, start + sibling(place), out, h);
+        let _ = copy_entry(tree, start + sibling(place), out, h);
         start += width;
         width /= 2;
         place /= 2;
@@ -55,7 +43,7 @@ fn copy_root(tree: &[u8], depth: usize, out: &mut [u8])
     requires { (depth ≤ depth_limit) × ((length tree.now ≡ tree_len depth) × (length out.old ≡ digest_len)) }
     ensures { out.new ≡ root_of depth tree.now }
 {
-    copy_entry(tree, 2 * leaves(depth) - 2, out, 0);
+    let _ = copy_entry(tree, 2 * leaves(depth) - 2, out, 0);
 }
 
 // Writes the root of a tree of this depth. Where the lengths do not fit, it refuses and writes nothing.

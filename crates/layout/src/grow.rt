@@ -7,27 +7,10 @@ ghost use Rattle.layout.specs.Answers.{grown, is_tree};
 ghost use Rattle.merkle.specs.Climb.{join_of, plain_rule, slot};
 ghost use Rattle.merkle.specs.Layout.{tree_layout, tree_len};
 
+use crate::entry::join_entries;
 use crate::size::{is_tree, leaves};
-use climbs::node::node_digest;
 use hash::digest::Hash;
-use hash::limits::DIGEST_LEN;
 use octets::misfit::Misfit;
-use octets::splice::splice;
-
-// Writes the node over entries 2i and 2i + 1 to entry `to`.
-fn join_pair<H: Hash>(tree: &mut [u8], i: usize, to: usize)
-    requires { (2 * i + 2 ≤ to) × (digest_len * to + digest_len ≤ length tree.old) }
-    ensures { tree.new ≡ over (digest_len * to) (join_of plain_rule H.meaning (slot (2 * i) tree.old) (slot (2 * i + 1) tree.old)) tree.old }
-{
-    let at = 2 * DIGEST_LEN * i;
-    let mut node = [0u8; DIGEST_LEN];
-    let _ = node_digest::<H>(
-        &tree[at..at + DIGEST_LEN],
-        &tree[at + DIGEST_LEN..at + 2 * DIGEST_LEN],
-        &mut node,
-    );
-    let _ = splice(tree, DIGEST_LEN * to, &node);
-}
 
 // Writes the entries behind the first `n`, which are the leaves.
 fn join_all<H: Hash>(tree: &mut [u8], depth: usize, n: usize)
@@ -35,7 +18,7 @@ fn join_all<H: Hash>(tree: &mut [u8], depth: usize, n: usize)
     ensures { tree.new ≡ tree_layout (join_of plain_rule H.meaning) depth (λ i. slot i tree.old) }
 {
     for i in 0..n - 1 {
-        join_pair::<H>(tree, i, n + i);
+        let _ = join_entries::<H>(tree, 2 * i, 2 * i + 1, n + i);
     }
 }
 

@@ -2,5 +2,6 @@
 #![tactic(auto)]
 
 pub mod cut;
+pub mod entry;
 pub mod grow;
 pub mod size;

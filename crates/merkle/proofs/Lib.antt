@@ -1,5 +1,6 @@
 pub mod Climbing
 pub mod Bound
+pub mod Chunks
 pub mod Even
 pub mod Same
 pub mod Steps

@@ -7,20 +7,13 @@ use Rattle.merkle.specs.Climb.{slot}
 use Rattle.merkle.specs.Layout.{path_of}
 use Rattle.merkle.proofs.Steps.{slot_length}
 use Rattle.merkle.proofs.Layouts.{flip_below}
-use Rattle.layout.proofs.Rows.{halved, path_step, path_end}
+use Rattle.layout.proofs.Rows.{copied_in, halved, path_step, path_end}
 use Rattle.layout.proofs.cut.copy_path.Goals as goal
 
 pub loop-h-init : goal.loop-h-init
 loop-h-init c =
     let d = c.args.depth in
     (ap (λ k. path_of k c.args.place c.args.tree.now) (sub-zero d), c.requires.0 ∙ ap (λ k. 2 ^ k) (sym (sub-zero d)), omega arith, omega arith, omega arith)
-
-pub copy_entry-requires : goal.copy_entry-requires
-copy_entry-requires c =
-    let inv = c.loop-h.invariant in
-    let half = halved c.args.depth c.loop-h.h c.loop-h.width c.loop-h-test.true inv.1 in
-    let low : flip c.loop-h.place < c.loop-h.width = flip_below c.loop-h.place _ c.loop-h.width inv.2 half.0 in
-    (omega arith, omega arith)
 
 pub loop-h-preserved : goal.loop-h-preserved
 loop-h-preserved c =
@@ -34,7 +27,7 @@ loop-h-preserved c =
     let low : flip p < w = flip_below p _ w inv.2 half.0 in
     let within : digest_len * (s + flip p) + digest_len ≤ length tree = omega arith in (
       path_step c.args.depth h p s w tree c.loop-h.out _ _ c.loop-h-test.true inv.1 (omega arith) (slot_length (s + flip p) tree within)
-          (c.copy_entry.ensures ∙ ap (λ q. over (digest_len * h) (slot (s + q) tree) c.loop-h.out) c.sibling.ensures) inv.0,
+          (c.copy_entry.ensures.written ∙ copied_in _ h tree c.loop-h.out (omega arith) (omega arith) ∙ ap (λ q. over (digest_len * h) (slot (s + q) tree) c.loop-h.out) c.sibling.ensures) inv.0,
       half.1,
       omega arith,
       omega arith,
