@@ -12,8 +12,7 @@ pub fn polynomial_stands()
     ensures second { SecondLaw polynomial }
     ensures weights { WeightLaw polynomial (scaled_weight plain_scale) }
     ensures words { PolynomialLaw }
-{
-}
+{}
 
 // The Cauchy code has the two laws, recovers by its weights, and its symbols are the sums of quotients.
 pub fn cauchy_stands()
@@ -21,18 +20,15 @@ pub fn cauchy_stands()
     ensures second { SecondLaw cauchy }
     ensures weights { WeightLaw cauchy (scaled_weight cauchy_scale) }
     ensures words { CauchyLaw }
-{
-}
+{}
 
 // Of any table, rows and then columns give what columns and then rows give.
 pub fn grid_stands()
     ensures law { GridLaw }
     ensures values { SquareValues }
-{
-}
+{}
 
 // Worked values.
 pub fn values_stand()
     ensures { Values }
-{
-}
+{}

@@ -101,6 +101,14 @@ codeword_halves T first k s hk xs long small =
     ap (λ ys. ys ++ drop (k * s) (codeword T k s xs)) (sym (codeword_front T first k s hk xs long small))
     ∙ take-append-drop (k * s) (codeword T k s xs)
 
+-- what stands behind the data takes the parity
+pub rest_fits : (k s : ℕ) → ok_width k ≡ true → (xs front tail : List ℕ) → length xs ≡ k * s → length tail ≡ k * s → front ≡ xs
+    → parity_fits k s (length xs) (length (take (length (front ++ tail) - k * s) (drop (k * s) (front ++ tail)))) ≡ true
+rest_fits k s w xs front tail long behind e =
+    let lf : length front ≡ k * s = ap length e ∙ long in
+    parity_fits_lem k s (length xs) (length (take (length (front ++ tail) - k * s) (drop (k * s) (front ++ tail)))) w long
+    (simp (length-take, length-drop, length-append) (omega arith))
+
 -- the data, and the parity written into what stands behind them
 pub encoded : (T : Table) → FirstLaw T → (k s : ℕ) → ok_width k ≡ true → (xs front tail rest : List ℕ)
     → length xs ≡ k * s → length tail ≡ k * s → ((n : ℕ) → get_or xs n 0 < 256) → front ≡ xs
@@ -110,13 +118,11 @@ pub encoded : (T : Table) → FirstLaw T → (k s : ℕ) → ok_width k ≡ true
 encoded T first k s w xs front tail rest long behind small e r =
     let m : k ≤ 32 = width_most k w in
     let lf : length front ≡ k * s = ap length e ∙ long in
-    let fits : parity_fits k s (length xs) (length (take (length (front ++ tail) - k * s) (drop (k * s) (front ++ tail)))) ≡ true =
-    parity_fits_lem k s (length xs) (length (take (length (front ++ tail) - k * s) (drop (k * s) (front ++ tail)))) w long
-    (simp (length-take, length-drop, length-append) (omega arith)) in
     put_rest (k * s) (front ++ tail) rest
     ∙ ap₂ ◌++◌ (take_at front tail (k * s) lf ∙ e)
     (r ∙ cond-true (parity_fits k s (length xs) (length (take (length (front ++ tail) - k * s) (drop (k * s) (front ++ tail)))))
-    (drop (k * s) (codeword T k s xs)) (take (length (front ++ tail) - k * s) (drop (k * s) (front ++ tail))) fits)
+    (drop (k * s) (codeword T k s xs)) (take (length (front ++ tail) - k * s) (drop (k * s) (front ++ tail)))
+    (rest_fits k s w xs front tail long behind e))
     ∙ codeword_halves T first k s (omega arith) xs long small
 
 -- ---- completion in place

@@ -10,12 +10,14 @@ ghost use Rattle.erasure.specs.Calls.{GivesBack, NoOther, encode_outcome, fittin
 ghost use Rattle.erasure.specs.Limits.{ok_width};
 ghost use Rattle.erasure.specs.Places.{rising_below};
 ghost use Rattle.erasure.specs.Refusals.{told};
+ghost use Rattle.std.specs.Result.{is_ok};
 
 use crate::code::Code;
 use crate::combine::apply_rows;
 use crate::limits::{ok_size, ok_width};
 use crate::places::are_rising;
 use crate::refusal::CodeRefusal;
+use octets::misfit::Misfit;
 
 // Whether buffers of n and m bytes hold k and 2k shares.
 fn lengths_fit(k: usize, s: usize, n: usize, m: usize) -> bool
@@ -78,20 +80,19 @@ fn fill_parity<C: Code>(places: &[u16], size: usize, shares: &[u8], out: &mut [u
     apply_rows(&rows[k * k..2 * k * k], k, k, size, shares, out);
 }
 
-// Encodes k shares of any size, and writes only the k shares behind the data. It answers whether k and the lengths are right; if not,
-// out is as it was.
-pub fn parity<C: Code>(k: usize, size: usize, shares: &[u8], out: &mut [u8]) -> bool
-    ensures answer { result ≡ parity_fits k size (length shares.now) (length out.old) }
+// Encodes k shares of any size, and writes only the k shares behind the data. Where k or a length is wrong, out is as it was.
+pub fn parity<C: Code>(k: usize, size: usize, shares: &[u8], out: &mut [u8]) -> Result<(), Misfit>
+    ensures answer { is_ok result ≡ parity_fits k size (length shares.now) (length out.old) }
     ensures rest { out.new ≡ (if parity_fits k size (length shares.now) (length out.old) then drop (k * size) (codeword C.Code.table k size shares.now) else out.old) }
 {
     if !parity_fits(k, size, shares.len(), out.len()) {
-        return false;
+        return Err(Misfit);
     }
     let mut space = [0u16; 32];
     let places = &mut space[0..k];
     count_places(places);
     fill_parity::<C>(places, size, shares, out);
-    true
+    Ok(())
 }
 
 // Encodes k shares of s bytes: out becomes their codeword.
@@ -109,8 +110,7 @@ pub fn encode<C: Code>(k: usize, s: usize, shares: &[u8], out: &mut [u8]) -> Res
         return Err(CodeRefusal::WrongLength);
     }
     out[0..k * s].copy_from_slice(shares);
-    parity::<C>(k, s, shares, &mut out[k * s..]);
-    Ok(())
+    Ok(parity::<C>(k, s, shares, &mut out[k * s..])?)
 }
 
 // Recovers a codeword from k of its shares, of s bytes each, whose places are named: out becomes the codeword through them.

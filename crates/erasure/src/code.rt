@@ -34,8 +34,6 @@ pub trait Code {
 }
 
 // Of any code, two codewords of shares that agree in k shares are equal.
-pub fn words_agree<C: Code>() -> u8
+pub fn words_agree<C: Code>()
     ensures { WordsLaw C.Code.table }
-{
-    0
-}
+{}

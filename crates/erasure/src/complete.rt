@@ -5,11 +5,13 @@ ghost use Rattle.codes.specs.Code.{applied};
 ghost use Rattle.codes.specs.Words.{codeword};
 ghost use Rattle.erasure.specs.Calls.{complete_fits};
 ghost use Rattle.erasure.specs.Limits.{ok_width};
+ghost use Rattle.std.specs.Result.{is_ok};
 
 use crate::calls::count_places;
 use crate::code::Code;
 use crate::combine::combine;
 use crate::limits::ok_width;
+use octets::misfit::Misfit;
 
 // Whether k shares can be encoded in place, and n bytes are 2k shares of w cells of s bytes.
 fn complete_fits(k: usize, w: usize, s: usize, n: usize) -> bool
@@ -58,18 +60,17 @@ fn fill_behind<C: Code>(places: &[u16], w: usize, s: usize, word: &mut [u8])
 }
 
 // Completes a codeword of shares of w cells of s bytes, at most 64 of at most 512 bytes, as the lines of a square are: its first k
-// shares stay, and the others are worked out from them. It answers whether k, w, s and the length are right; if not, the buffer is as
-// it was.
-pub fn complete<C: Code>(k: usize, w: usize, s: usize, word: &mut [u8]) -> bool
-    ensures answer { result ≡ complete_fits k w s (length word.old) }
+// shares stay, and the others are worked out from them. Where k, w, s or the length is wrong, the buffer is as it was.
+pub fn complete<C: Code>(k: usize, w: usize, s: usize, word: &mut [u8]) -> Result<(), Misfit>
+    ensures answer { is_ok result ≡ complete_fits k w s (length word.old) }
     ensures whole { word.new ≡ (if complete_fits k w s (length word.old) then codeword C.Code.table k (w * s) (take (k * (w * s)) word.old) else word.old) }
 {
     if !complete_fits(k, w, s, word.len()) {
-        return false;
+        return Err(Misfit);
     }
     let mut space = [0u16; 32];
     let places = &mut space[0..k];
     count_places(places);
     fill_behind::<C>(places, w, s, word);
-    true
+    Ok(())
 }

@@ -1,17 +1,30 @@
 // The ways in which the calls of this layer refuse.
 ghost use Rattle.erasure.specs.Refusals.{told};
+ghost use Rattle.erasure.specs.declared.refusal.CodeRefusal.TheVariants.{WrongLength};
 ghost use Rattle.std.specs.Prelude.{◌≡◌};
 
-#[derive(Clone, Copy, Drop)]
+use octets::misfit::Misfit;
+use thiserror::Error;
+
+#[derive(Clone, Copy, PartialEq, Eq, Debug, Error)]
 pub enum CodeRefusal {
-    // k is none of the six
+    #[error("k is not 1, 2, 4, 8, 16 or 32")]
     WrongWidth,
-    // a share has 1 to 512 bytes
+    #[error("the share size is not between 1 and 512 bytes")]
     WrongShareSize,
-    // a buffer, or the list of places
+    // A buffer, or the list of places.
+    #[error("a buffer or an input has a wrong length")]
     WrongLength,
-    // the places are not strictly increasing, or one is 2k or more
+    #[error("the places are not strictly increasing, or one is 2k or more")]
     PlacesNotRising,
+}
+
+impl From<Misfit> for CodeRefusal {
+    ghost from_gives = { λ _ e. e ≡ WrongLength };
+
+    fn from(_: Misfit) -> CodeRefusal {
+        Self::WrongLength
+    }
 }
 
 impl CodeRefusal {

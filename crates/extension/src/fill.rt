@@ -4,6 +4,7 @@ ghost use Rattle.octets.specs.Shares.{byte_of, share};
 ghost use Rattle.codes.specs.Words.{codeword};
 ghost use Rattle.erasure.specs.Calls.{complete_fits};
 ghost use Rattle.erasure.specs.Limits.{ok_size, ok_width};
+ghost use Rattle.std.specs.Result.{is_ok};
 ghost use Rattle.extension.specs.Laws.{LinesCoded, LinesFromAny};
 ghost use Rattle.extension.specs.Square.{extension, extension_by_columns, fill_fits, quadrant};
 
@@ -11,6 +12,7 @@ use crate::lengths::fill_fits;
 use erasure::calls::encode;
 use erasure::code::Code;
 use erasure::complete::complete;
+use octets::misfit::Misfit;
 
 // Extends the k rows of the data: they become the first k rows of the square.
 fn fill_rows<C: Code>(k: usize, s: usize, shares: &[u8], square: &mut [u8])
@@ -34,13 +36,12 @@ fn fill_columns<C: Code>(k: usize, s: usize, square: &mut [u8])
     requires { k < 33 }
     ensures { square.new ≡ (if complete_fits k (2 * k) s (length square.old) then codeword C.Code.table k (2 * k * s) (take (k * (2 * k * s)) square.old) else square.old) }
 {
-    complete::<C>(k, 2 * k, s, square);
+    let _ = complete::<C>(k, 2 * k, s, square);
 }
 
-// Fills the square of k by k shares of s bytes each, the data. It answers whether k, s and the lengths are right; if not, the square is
-// as it was.
-pub fn fill<C: Code>(k: usize, s: usize, shares: &[u8], square: &mut [u8]) -> bool
-    ensures answer { result ≡ fill_fits k s (length shares.now) (length square.old) }
+// Fills the square of k by k shares of s bytes each, the data. Where k, s or a length is wrong, the square is as it was.
+pub fn fill<C: Code>(k: usize, s: usize, shares: &[u8], square: &mut [u8]) -> Result<(), Misfit>
+    ensures answer { is_ok result ≡ fill_fits k s (length shares.now) (length square.old) }
     ensures filled { square.new ≡ (if fill_fits k s (length shares.now) (length square.old) then extension C.Code.table k s shares.now else square.old) }
     ensures columns { fill_fits k s (length shares.now) (length square.old) ≡ true → square.new ≡ extension_by_columns C.Code.table k s shares.now }
     ensures lines { fill_fits k s (length shares.now) (length square.old) ≡ true → LinesCoded C.Code.table k s square.new }
@@ -48,9 +49,9 @@ pub fn fill<C: Code>(k: usize, s: usize, shares: &[u8], square: &mut [u8]) -> bo
     ensures front { fill_fits k s (length shares.now) (length square.old) ≡ true → quadrant k s square.new ≡ shares.now }
 {
     if !fill_fits(k, s, shares.len(), square.len()) {
-        return false;
+        return Err(Misfit);
     }
     fill_rows::<C>(k, s, shares, square);
     fill_columns::<C>(k, s, square);
-    true
+    Ok(())
 }

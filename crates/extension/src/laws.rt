@@ -3,9 +3,7 @@ ghost use Rattle.extension.specs.Laws.{CodedIsExtension, SquareValues};
 ghost use Rattle.std.specs.Prelude.{◌≡◌};
 
 // A worked square, and the way back from lines that are codewords to the data.
-pub fn extension_stands() -> u8
+pub fn extension_stands()
     ensures values { SquareValues }
     ensures coded { CodedIsExtension }
-{
-    0
-}
+{}

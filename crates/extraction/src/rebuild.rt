@@ -41,7 +41,7 @@ pub(crate) fn rebuild<H: Hash, C: Code>(
     ensures stands { Extended H.Hash.meaning C.Code.table (fields_of h.now) shares.now (square_of C.Code.table (fields_of h.now) shares.now) (roots_of H.Hash.meaning (fields_of h.now) (square_of C.Code.table (fields_of h.now) shares.now)) }
     ensures answer { result ≡ is_header_of H.Hash.meaning (fields_of h.now) (square_of C.Code.table (fields_of h.now) shares.now) }
 {
-    fill::<C>(h.k as usize, h.s as usize, shares, square);
+    let _ = fill::<C>(h.k as usize, h.s as usize, shares, square);
     square_roots::<H>(h, square, roots);
     is_header_of::<H>(h, roots)
 }

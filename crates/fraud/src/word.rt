@@ -53,7 +53,7 @@ fn put_cell<H: Hash>(
     requires room { digest_len * i + digest_len ≤ length entries.old }
     ensures { entries.new ≡ over (digest_len * i) (leaf_of plain_rule H.meaning (row_sum row.now size 9 (length sum.old) records.now)) entries.old }
 {
-    apply_row(row, records, size, SHARE_AT, sum);
+    let _ = apply_row(row, records, size, SHARE_AT, sum);
     let mut leaf = [0u8; DIGEST_LEN];
     let _ = leaf_digest::<H>(sum, &mut leaf);
     splice(entries, DIGEST_LEN * i, &leaf);

@@ -6,8 +6,7 @@ ghost use Rattle.std.specs.Prelude.{◌≡◌};
 // That the definitions are a field's.
 pub fn field_stands()
     ensures { FieldLaws }
-{
-}
+{}
 
 // x, the polynomial, times a: all coefficients move up by one, and x^8, if it comes up, is what 0x11D leaves of it.
 pub(crate) fn times_x(a: u8) -> u8

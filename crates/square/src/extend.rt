@@ -44,6 +44,6 @@ pub fn extend<H: Hash, C: Code>(
     if !lengths_fit(&h, shares.len(), square.len(), roots.len()) {
         return Err(SquareRefusal::WrongLength);
     }
-    fill::<C>(k, s, shares, square);
+    let _ = fill::<C>(k, s, shares, square);
     commit::<H, C>(k, s, square, roots)
 }

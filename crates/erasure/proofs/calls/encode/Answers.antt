@@ -1,10 +1,11 @@
-use Rattle.std.proofs.Common.{◌≡◌, ℕ, ◌+◌, ◌-◌, ◌*◌, ◌≤◌, List, length, drop, sym, ap, ◌∙◌, arith, length-drop}
+use Rattle.std.proofs.Common.{◌≡◌, ℕ, ◌+◌, ◌-◌, ◌*◌, ◌≤◌, true, false, List, length, drop, sym, ap, ◌∙◌, arith, length-drop}
+use Rattle.std.proofs.lemmas.Bool.{false≢true}
 use Rattle.octets.specs.Written.{written}
 use Rattle.octets.proofs.Cells.{both_halves}
 use Rattle.codes.specs.Words.{codeword}
 use Rattle.erasure.proofs.Bounds.{width_most, size_most}
 use Rattle.erasure.proofs.Recovers.{encode_width, encode_size, encode_length, encode_fine, fitting_parts}
-use Rattle.erasure.proofs.Parity.{encoded}
+use Rattle.erasure.proofs.Parity.{encoded, rest_fits}
 use Rattle.erasure.proofs.calls.encode.Goals as goal
 
 pub returns-then-not-ok_width : goal.returns-then-not-ok_width
@@ -37,6 +38,16 @@ returns-then-not-lengths_fit g c =
       answer = sym e;
       word = sym (ap (λ o. written o (codeword g.C.Code.table c.args.k c.args.s c.args.shares.now) c.args.out.now) e);
     }
+
+pub returns-in_err-parity : goal.returns-in_err-parity
+returns-in_err-parity g c =
+    let f = fitting_parts c.args.k c.args.s (length c.args.shares.now) (length c.args.out.now) (sym c.if-not-lengths_fit.ensures) in
+    let e : false ≡ true =
+    c.in_err-parity.ensures.answer
+    ∙ rest_fits c.args.k c.args.s (sym c.if-not-ok_width.ensures) c.args.shares.now c.copy_from_slice.new.self (drop (c.args.k * c.args.s - 0) c.args.out.now) f.0
+    (let t : 2 * c.args.k * c.args.s ≡ c.args.k * c.args.s + c.args.k * c.args.s = both_halves c.args.k c.args.s in simp length-drop (omega (arith, f.1)))
+    c.copy_from_slice.ensures.after in
+    absurd (false≢true e)
 
 pub returns : goal.returns
 returns g c =
