@@ -1,5 +1,5 @@
 -- Reading and writing undo each other.
-use Rattle.std.proofs.Common.{◌≡◌, ℕ, ◌+◌, ◌^◌, ◌<◌, ◌≤◌, Bool, true, false, cond, not, ◌&&◌, ◌||◌, eqb, ltb, List, [], ◌∷◌, ◌++◌, length, take, drop, Ok, Err, Result, sym, refl, ap, ◌∙◌, subst, inl, inr, append_assoc, append-nil, arith, length-append, length-drop, take-append-drop, length-take-le, drop-drop}
+use Rattle.std.proofs.Common.{◌≡◌, ℕ, ◌+◌, ◌-◌, ◌^◌, ◌<◌, ◌≤◌, Bool, true, false, cond, not, ◌&&◌, ◌||◌, eqb, ltb, List, [], ◌∷◌, ◌++◌, length, take, drop, Ok, Err, Result, sym, refl, ap, ◌∙◌, subst, inl, inr, append_assoc, append-nil, arith, length-append, length-drop, take-append-drop, length-take-le, drop-drop}
 use Rattle.std.specs.List.{AllByRecursion as All}
 use Rattle.std.proofs.ByRecursion.{All-take, All-drop}
 use Rattle.std.proofs.lemmas.List.{nil_from_length, take_at, drop_at}
@@ -281,3 +281,11 @@ behind_is h due bs r tail c =
     let e : tail ≡ drop (head_len + body_len bs) bs = sym c.behind ∙ drop-drop (body_len bs) head_len bs in
     let n = length-drop head_len bs in
     (e ∙ ap (λ m. drop (head_len + m) bs) c.body, omega (arith, c.held, c.long, c.body))
+
+-- a reader that has read a record of some bytes comes to what is behind the record
+pub further : (h : Fields) (due : Due) (at : ℕ) (bs : List ℕ) (r : Rec) (tail : List ℕ) → at ≤ length bs → reads_at h due at (drop at bs) ≡ Ok (r, tail) → drop (length bs - length tail) bs ≡ tail
+further h due at bs r tail le p =
+    let q = behind_is h due (drop at bs) r tail (cut_at h due at (drop at bs) r tail p) in
+    let m : ℕ = head_len + body_for h (kind_in (drop at bs)) in
+    let k : length bs - length tail ≡ at + m = omega (arith, ap length q.0, length-drop m (drop at bs), length-drop at bs, q.1) in
+    ap (λ j. drop j bs) k ∙ sym (drop-drop m at bs) ∙ sym q.0

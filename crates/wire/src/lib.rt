@@ -7,6 +7,7 @@ pub mod kind;
 pub mod numbers;
 mod range;
 pub mod read;
+pub mod reader;
 pub mod record;
 pub mod refusal;
 pub mod write;

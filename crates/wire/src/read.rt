@@ -1,9 +1,10 @@
 // Reading a record from the front of some bytes.
-ghost use Rattle.std.specs.Prelude.{◌≡◌, ◌+◌, ◌≤◌, length, IfOk};
+ghost use Rattle.std.specs.Prelude.{◌≡◌, ◌==◌, ◌+◌, ◌<◌, ◌≤◌, length, IfOk, OnErr, OnOk, true};
 ghost use Rattle.octets.specs.Outcome.{outcome_by};
 ghost use Rattle.header.specs.Fields.{fields_of};
 ghost use Rattle.header.specs.Sizes.{head_len};
 ghost use Rattle.wire.specs.Parts.{Begins, after, read_of, value_of};
+ghost use Rattle.wire.specs.Readers.{Moves, read_by, rest_of};
 ghost use Rattle.wire.specs.Reading.{body_len, reads, reads_at};
 ghost use Rattle.wire.specs.Refusals.{told_fault, told_read};
 ghost use Rattle.wire.specs.Writing.{WritesBack};
@@ -13,6 +14,7 @@ use crate::body::record_in;
 use crate::due::Due;
 use crate::kind::admit;
 use crate::range::in_range;
+use crate::reader::Reader;
 use crate::record::Record;
 use crate::refusal::{Fault, ReadRefusal};
 use header::header::Header;
@@ -69,4 +71,49 @@ pub fn read_at<'a>(
         });
     }
     read_due(h, due, rest).map_err(|fault| ReadRefusal { fault, at })
+}
+
+impl<'a> Reader<'a> {
+    // At the front of some bytes.
+    pub fn new(bytes: &'a [u8]) -> Reader<'a>
+        ensures bytes { result.bytes ≡ bytes.entry }
+        ensures place { result.at ≡ 0 }
+    {
+        Reader { bytes, at: 0 }
+    }
+
+    // The byte place that the reader has come to.
+    pub fn place(&self) -> usize
+        ensures { result ≡ self.now.at }
+    {
+        self.at
+    }
+
+    // The bytes that were not read yet.
+    pub fn rest(&self) -> &'a [u8]
+        ensures value { result.now ≡ rest_of self.now }
+        ensures place { result.ref_ptr ≡ after self.now.bytes.ref_ptr self.now.at }
+    {
+        &self.bytes[self.at..]
+    }
+
+    // Whether every byte was read.
+    pub fn is_at_end(&self) -> bool
+        ensures { result ≡ (length (rest_of self.now) == 0) }
+    {
+        self.rest().is_empty()
+    }
+
+    // Reads the record that is due, in the block of a header, and moves on behind it. Refused, it stays where it was.
+    pub fn read(&mut self, h: &Header, due: Due) -> Result<Record<'a>, ReadRefusal>
+        ensures answer { outcome_by (read_by self.new) told_read result ≡ reads_at (fields_of h.now) due self.old.at (rest_of self.old) }
+        ensures moved { IfOk result (λ x. Moves (fields_of h.now) self.old self.new x) }
+        ensures on { OnOk result (self.old.at < self.new.at) }
+        ensures stays { OnErr result (self.new ≡ self.old) }
+        ensures same { self.new.bytes ≡ self.old.bytes }
+    {
+        let (item, behind) = read_at(h, due, self.at, self.rest())?;
+        self.at = self.bytes.len() - behind.len();
+        Ok(item)
+    }
 }
