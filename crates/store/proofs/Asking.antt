@@ -1,11 +1,13 @@
 -- Questions that are refused, and questions that are answered.
-use Rattle.std.proofs.Common.{◌≡◌, ℕ, ◌*◌, ◌<◌, Bool, true, false, cond, not, eqb, ltb, List, length, Ok, Err, Option, Result, sym, refl, ap, ◌∙◌, subst, arith}
+use Rattle.std.proofs.Common.{◌≡◌, ℕ, ◌*◌, ◌<◌, Bool, true, false, cond, not, eqb, ltb, List, length, Ok, Err, Option, Result, sym, refl, ap, ◌∙◌, subst, ap₂, arith}
 use Rattle.std.proofs.lemmas.Bool.{and_parts, eqb-true, ltb-true, lt-ltb, eq-eqb}
 use Rattle.octets.specs.Outcome.{Refused, plain, outcome}
 use Rattle.octets.specs.Written.{written}
 use Rattle.erasure.specs.Limits.{ok_width, ok_size}
 use Rattle.header.specs.declared.cell.Axis.{Axis}
+use Rattle.header.specs.Fields.{Fields, shape, header_outcome}
 use Rattle.header.specs.Sizes.{has_cell, path_len}
+use Rattle.header.proofs.Made.{made}
 use Rattle.evidence.specs.Evidence.{Evidence, evidence_fits}
 use Rattle.store.specs.Meaning.{Meaning, Bounded, block}
 use Rattle.store.specs.declared.refusal.StoreRefusal.{StoreRefusal}
@@ -19,6 +21,16 @@ question_is m b k s r c n p ek es =
     ∙ ap (λ v. cond (not (ok_width m.k)) (Err (plain 1)) (cond (not (ok_size v)) (Err (plain 2)) (asked m.k v r c n p))) es
     ∙ ap (λ v. cond (not v) (Err (plain 1)) (cond (not (ok_size m.s)) (Err (plain 2)) (asked m.k m.s r c n p))) b.0
     ∙ ap (λ v. cond (not v) (Err (plain 2)) (asked m.k m.s r c n p)) b.1
+
+-- a question asked of a header that was made of the k and the share size
+pub question_by : (k s r c n p : ℕ) (h : Fields) → Ok h ≡ header_outcome (shape k s) → (inside fits : Bool) → inside ≡ has_cell h r c → fits ≡ evidence_fits h n p
+    → question_outcome k s r c n p ≡ cond (not inside) (Err (plain 15)) (cond (not fits) (Err (plain 3)) (Ok tt))
+unfolding asked
+question_by k s r c n p h e inside fits i f =
+    let m = made (shape k s) h e in
+    ap₂ (λ w z. cond (not w) (Err (plain 1)) (cond (not z) (Err (plain 2)) (asked k s r c n p))) m.wide m.sized
+    ∙ ap (λ (x : Fields). cond (not (has_cell x r c)) (Err (plain 15)) (cond (not (evidence_fits x n p)) (Err (plain 3)) (Ok tt))) (sym m.same)
+    ∙ ap₂ (λ x y. cond (not x) (Err (plain 15)) (cond (not y) (Err (plain 3)) (Ok tt))) (sym i) (sym f)
 
 -- what follows of a question that is not refused
 pub record Admitted (k s r c n p : ℕ) : Type 0 where

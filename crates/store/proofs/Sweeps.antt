@@ -1,15 +1,17 @@
 -- Cells held one by one.
-use Rattle.std.proofs.Common.{◌≡◌, ℕ, ◌+◌, ◌*◌, ◌/◌, ◌%◌, ◌<◌, ◌≤◌, List, length, get_or, set, replicate, Some, None, Ok, Option, sym, refl, ap, ◌∙◌, subst, ap₂, inl, inr, mod-lt, div-lt_iff_lt-mul, arith, below_more}
+use Rattle.std.proofs.Common.{◌≡◌, ℕ, ◌+◌, ◌*◌, ◌/◌, ◌%◌, ◌<◌, Bool, true, false, List, length, get_or, set, replicate, Some, None, Ok, Option, sym, refl, ap, ◌∙◌, subst, ap₂, inl, inr, mod-lt, div-lt_iff_lt-mul, arith, below_more}
 use Rattle.std.proofs.lemmas.Nat.{div-mul-add, mod-mul-add, mul-add-lt}
 use Rattle.std.proofs.lemmas.List.{get_or-set_same, get_or-set_other, get_or-replicate, get_or_past, length-replicate}
 use Rattle.std.proofs.lemmas.Bool.{cases_lt}
+use Rattle.std.specs.Int.{from_bool}
+use Rattle.std.specs.Option.{is_some}
 use Rattle.octets.specs.Shares.{byte_of}
-use Rattle.octets.specs.Splice.{spliced}
-use Rattle.octets.proofs.Shares.{buffer_from_bytes, put_more, share_inside}
-use Rattle.octets.proofs.Splices.{over_is, spliced_in}
+use borrow.Rule.Slice.PartMut.{put_mid}
+use Rattle.octets.proofs.Shares.{buffer_from_bytes, put_more}
 use Rattle.header.specs.declared.cell.Axis.{Axis}
 use Rattle.header.specs.Fields.{Fields}
 use Rattle.header.specs.Sizes.{width, cell_count, square_len}
+use Rattle.evidence.specs.Evidence.{Evidence}
 use Rattle.store.specs.Meaning.{Meaning}
 use Rattle.store.specs.Showing.{asked}
 use Rattle.store.specs.Taking.{taken, brought, in_hand, Takes}
@@ -27,18 +29,21 @@ module _ (f : List ℕ → List ℕ) (h : Fields) (m : Meaning) where
     pub in_hand_lem : (axis : Option Axis) → Takes f h m m' order r c share path axis share' path' → taken f h m r c ≡ in_hand axis share' path'
     in_hand_lem axis t = sym (t.gives ∙ ap (λ q. brought q (taken f h m r c)) free)
 
-    pub holds_some : (axis : Axis) → Takes f h m m' order r c share path (Some axis) share' path' → Holds f h m m' order r c 1 share'
-    holds_some axis t = record {
+    pub holds_some : (axis : Option Axis) → is_some axis ≡ true → Takes f h m m' order r c share path axis share' path' → Holds f h m m' order r c (is_some axis) share'
+    holds_some None some t = let z : ◌≡◌ {A = ℕ} 0 1 = cc in absurd (omega arith)
+    holds_some (Some axis) some t = record {
       bytes = λ b. sym (ap (λ v. share_byte v b) (in_hand_lem (Some axis) t));
-      mark_is = sym (ap mark_of (in_hand_lem (Some axis) t));
+      held_is = sym (ap is_some (in_hand_lem (Some axis) t));
       same = t.same;
       kept = t.kept;
     }
 
-    pub holds_none : (n : ℕ) (zeros : List ℕ) → zeros ≡ replicate n 0 → Takes f h m m' order r c share path None share' path' → Holds f h m m' order r c 0 zeros
-    holds_none n zeros z t = record {
+    pub holds_none : (axis : Option Axis) → is_some axis ≡ false → (n : ℕ) (zeros : List ℕ) → zeros ≡ replicate n 0 → Takes f h m m' order r c share path axis share' path'
+        → Holds f h m m' order r c (is_some axis) zeros
+    holds_none (Some axis) none n zeros z t = let y : ◌≡◌ {A = ℕ} 0 1 = cc in absurd (omega arith)
+    holds_none None none n zeros z t = record {
       bytes = λ b. ap (λ xs. get_or xs b 0) z ∙ zeros_byte n b ∙ sym (ap (λ v. share_byte v b) (in_hand_lem None t));
-      mark_is = sym (ap mark_of (in_hand_lem None t));
+      held_is = sym (ap is_some (in_hand_lem None t));
       same = t.same;
       kept = t.kept;
     }
@@ -50,19 +55,21 @@ module _ (f : List ℕ → List ℕ) (h : Fields) (m : Meaning) where
   abbrev pub Marks : ℕ → List ℕ → Type 0
   Marks i marks = (j : ℕ) → j < i → get_or marks j 0 ≡ mark_of (taken_at f h m j)
 
-  pub cells_more : (i : ℕ) (square share square' : List ℕ) → Cells i square → length square ≡ square_len h → length share ≡ h.s → i < cell_count h
-      → ((b : ℕ) → get_or share b 0 ≡ share_byte (taken_at f h m i) b) → square' ≡ spliced (i * h.s) share square → Cells (i + 1) square'
-  cells_more i square share square' below long size within here e =
-      let room : i * h.s + h.s ≤ cell_count h * h.s = share_inside i (cell_count h) h.s within in
-      let is = e ∙ spliced_in (i * h.s) share square (omega arith) ∙ sym (over_is (i * h.s) h.s square share share refl size) in
-      subst (λ (xs : List ℕ). Cells (i + 1) xs) (sym is)
-      (put_more h.s i (cell_count h) h.s square share long within size (λ j b. share_byte (taken_at f h m j) b) below (λ b l. here b))
+  pub cells_more : (i at k : ℕ) (square share : List ℕ) → at ≡ i * h.s → k ≡ h.s → Cells i square → length square ≡ square_len h → length share ≡ h.s → i < cell_count h
+      → ((b : ℕ) → get_or share b 0 ≡ share_byte (taken_at f h m i) b) → Cells (i + 1) (put_mid at k square share)
+  cells_more i at k square share begin size below long full within here =
+      subst (λ (n : ℕ). Cells (i + 1) (put_mid n k square share)) (sym begin)
+      (put_more h.s i (cell_count h) k square share long within full (λ j b. share_byte (taken_at f h m j) b) below (λ b l. here b))
 
-  pub marks_more : (i mark : ℕ) (marks : List ℕ) → Marks i marks → i < length marks → mark ≡ mark_of (taken_at f h m i) → Marks (i + 1) (set marks i mark)
-  marks_more i mark marks below within e =
+  marked : (v : Option Evidence) → from_bool (is_some v) ≡ mark_of v
+  marked None = refl
+  marked (Some e) = refl
+
+  pub marks_more : (i mark : ℕ) (marks : List ℕ) (held : Bool) → Marks i marks → i < length marks → mark ≡ from_bool held → held ≡ is_some (taken_at f h m i) → Marks (i + 1) (set marks i mark)
+  marks_more i mark marks held below within e is =
       below_more _ _
       (λ j l. get_or-set_other marks i j mark 0 (omega arith) ∙ below j l)
-      (get_or-set_same marks i mark 0 within ∙ e)
+      (get_or-set_same marks i mark 0 within ∙ e ∙ ap from_bool is ∙ marked (taken_at f h m i))
 
   pub all_cells : (square : List ℕ) → length square ≡ square_len h → Cells (cell_count h) square → square ≡ held_square f h m
   all_cells square long all = buffer_from_bytes (cell_count h) h.s _ square long all
@@ -82,12 +89,12 @@ pub col_below : (i w : ℕ) → 0 < w → i % w < w
 col_below i w some = mod-lt i some
 
 -- the same said of a store that means the same, at a cell of a square of the same width
-pub moved : (f : List ℕ → List ℕ) (h : Fields) (n m m' : Meaning) (order : Type 0) (i w mark : ℕ) (share' : List ℕ) → n ≡ m → w ≡ width h
-    → Holds f h n m' order (i / w) (i % w) mark share' → Holds f h m m' order (i / width h) (i % width h) mark share'
-moved f h n m m' order i w mark share' e d x =
-    subst (λ (v : ℕ). Holds f h m m' order (i / v) (i % v) mark share') d (record {
+pub moved : (f : List ℕ → List ℕ) (h : Fields) (n m m' : Meaning) (order : Type 0) (i w : ℕ) (held : Bool) (share' : List ℕ) → n ≡ m → w ≡ width h
+    → Holds f h n m' order (i / w) (i % w) held share' → Holds f h m m' order (i / width h) (i % width h) held share'
+moved f h n m m' order i w held share' e d x =
+    subst (λ (v : ℕ). Holds f h m m' order (i / v) (i % v) held share') d (record {
       bytes = λ b. x.bytes b ∙ ap (λ (v : Meaning). share_byte (taken f h v (i / w) (i % w)) b) e;
-      mark_is = x.mark_is ∙ ap (λ (v : Meaning). mark_of (taken f h v (i / w) (i % w))) e;
+      held_is = x.held_is ∙ ap (λ (v : Meaning). is_some (taken f h v (i / w) (i % w))) e;
       same = x.same ∙ e;
       kept = x.kept;
     })

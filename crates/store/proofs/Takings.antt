@@ -1,5 +1,6 @@
 -- What is shown, verified or not.
 use Rattle.std.proofs.Common.{◌≡◌, ℕ, Bool, true, false, cond, List, length, Some, None, Ok, Err, Option, Result, sym, refl, ap, ◌∙◌, arith}
+use Rattle.std.specs.Bool.{then_some}
 use Rattle.std.specs.Result.{result_unwrap_or}
 use Rattle.octets.specs.Outcome.{Refused, outcome}
 use Rattle.octets.specs.Written.{written}
@@ -33,11 +34,11 @@ hand_none (Ok t) (Some e) (Ok None) none a = never (cc)
 hand_none (Ok t) (Some e) (Err d) none a = never (cc)
 
 -- what the value is where a refusal counts as nothing
-pub value_some : (x : Result (Option Axis) StoreRefusal) (axis : Axis) → Some axis ≡ result_unwrap_or x None → x ≡ Ok (Some axis)
+value_some : (x : Result (Option Axis) StoreRefusal) (axis : Axis) → Some axis ≡ result_unwrap_or x None → x ≡ Ok (Some axis)
 value_some (Ok v) axis e = ap Ok (sym e)
 value_some (Err d) axis e = never (cc)
 
-pub value_none : (x : Result (Option Axis) StoreRefusal) (axis : Axis) → None ≡ result_unwrap_or x None → x ≡ Ok (Some axis) → ⊥
+value_none : (x : Result (Option Axis) StoreRefusal) (axis : Axis) → None ≡ result_unwrap_or x None → x ≡ Ok (Some axis) → ⊥
 value_none x axis e is = let p : None ≡ Some axis = e ∙ ap (λ y. result_unwrap_or y None) is in never (cc)
 
 module _ (f : List ℕ → List ℕ) (h : Fields) (r c : ℕ) where
@@ -60,17 +61,20 @@ module _ (f : List ℕ → List ℕ) (h : Fields) (r c : ℕ) where
         → Takes f h m m' order r c share path axis share' path'
     takes axis e = record { gives = e; share_is = shows.share_is; path_is = shows.path_is; same = shows.same; kept = shows.kept }
 
-    pub takes_verified : (axis : Axis) (b : Bool) → x ≡ Ok (Some axis) → verifies f h r c axis share' path' ≡ b → Takes f h m m' order r c share path (cond b (Some axis) None) share' path'
-    takes_verified axis true is t =
-        takes (Some axis)
-        (sym (brought_verified (asked m.k m.s r c (length share) (length path)) (m.at r c)
-        ∙ verified_by _ (record { axis = axis; share = share'; path = path' }) true (hand_some _ (m.at r c) axis share path share' path' (sym (ap (outcome told) is) ∙ shows.answers) shows.share_is shows.path_is) t))
-    takes_verified axis false is t =
-        takes None
-        (sym (brought_verified (asked m.k m.s r c (length share) (length path)) (m.at r c)
-        ∙ verified_by _ (record { axis = axis; share = share'; path = path' }) false (hand_some _ (m.at r c) axis share path share' path' (sym (ap (outcome told) is) ∙ shows.answers) shows.share_is shows.path_is) t))
+    in_hand_verified : (axis : Axis) (b : Bool) → Some axis ≡ result_unwrap_or x None → b ≡ verifies f h r c axis share' path'
+        → cond b (in_hand (Some axis) share' path') None ≡ brought (asked m.k m.s r c (length share) (length path)) (taken f h m r c)
+    in_hand_verified axis b is t =
+        sym (brought_verified (asked m.k m.s r c (length share) (length path)) (m.at r c)
+        ∙ verified_by _ (record { axis = axis; share = share'; path = path' }) b
+        (hand_some _ (m.at r c) axis share path share' path' (sym (ap (outcome told) (value_some x axis is)) ∙ shows.answers) shows.share_is shows.path_is) (sym t))
 
-    pub takes_none : ((axis : Axis) → x ≡ Ok (Some axis) → ⊥) → Takes f h m m' order r c share path None share' path'
-    takes_none none =
-        takes None
-        (sym (brought_verified (asked m.k m.s r c (length share) (length path)) (m.at r c) ∙ verified_none _ (hand_none _ (m.at r c) x none shows.answers)))
+    pub takes_verified : (axis : Axis) (b : Bool) → Some axis ≡ result_unwrap_or x None → b ≡ verifies f h r c axis share' path'
+        → (given : Option Axis) → given ≡ then_some b axis → Takes f h m m' order r c share path given share' path'
+    takes_verified axis true is t given e = takes given (ap (λ o. in_hand o share' path') e ∙ in_hand_verified axis true is t)
+    takes_verified axis false is t given e = takes given (ap (λ o. in_hand o share' path') e ∙ in_hand_verified axis false is t)
+
+    pub takes_none : None ≡ result_unwrap_or x None → (axis : Option Axis) → axis ≡ None → Takes f h m m' order r c share path axis share' path'
+    takes_none none axis is =
+        takes axis
+        (ap (λ o. in_hand o share' path') is
+        ∙ sym (brought_verified (asked m.k m.s r c (length share) (length path)) (m.at r c) ∙ verified_none _ (hand_none _ (m.at r c) x (λ a. value_none x a none) shows.answers)))

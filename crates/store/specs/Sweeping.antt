@@ -1,5 +1,6 @@
 -- What is held of a square after every cell was put to a store.
 use Rattle.std.specs.Prelude.{◌≡◌, ℕ, ◌/◌, ◌%◌, Bool, cond, ◌&&◌, List, length, Some, None, Option, ◌==◌, slice_index}
+use Rattle.std.specs.Option.{is_some}
 use Rattle.octets.specs.Shares.{buffer}
 use Rattle.header.specs.Fields.{Fields}
 use Rattle.header.specs.Sizes.{width, cell_count, square_len}
@@ -28,10 +29,10 @@ held_square f h m = buffer (cell_count h) h.s (λ i b. share_byte (taken_at f h 
 abbrev pub held_marks : (List ℕ → List ℕ) → Fields → Meaning → List ℕ
 held_marks f h m = buffer (width h) (width h) (λ r c. mark_of (taken f h m r c))
 
--- what holding one cell of a store in order that means m gives: the mark, and the share in its buffer
-pub record Holds (f : List ℕ → List ℕ) (h : Fields) (m m' : Meaning) (order : Type 0) (r c mark : ℕ) (share' : List ℕ) : Type 0 where
+-- what holding one cell of a store in order that means m gives: whether an evidence is taken, and the share in its buffer
+pub record Holds (f : List ℕ → List ℕ) (h : Fields) (m m' : Meaning) (order : Type 0) (r c : ℕ) (held : Bool) (share' : List ℕ) : Type 0 where
   pub bytes : (b : ℕ) → slice_index share' b ≡ share_byte (taken f h m r c) b
-  pub mark_is : mark ≡ mark_of (taken f h m r c)
+  pub held_is : held ≡ is_some (taken f h m r c)
   pub same : m' ≡ m
   pub kept : order
 

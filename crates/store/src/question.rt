@@ -1,38 +1,24 @@
 // What every store looks at first when it is asked for a cell.
-ghost use Rattle.octets.specs.Outcome.{outcome};
-ghost use Rattle.erasure.specs.Limits.{ok_size, ok_width};
-ghost use Rattle.evidence.specs.Evidence.{evidence_fits};
-ghost use Rattle.header.specs.Fields.{fields_of};
+ghost use Rattle.octets.specs.Outcome.{outcome, outcome_by};
+ghost use Rattle.header.specs.Fields.{fields_of, header_outcome, shape};
 ghost use Rattle.store.specs.Refusals.{told};
 ghost use Rattle.store.specs.Showing.{question_outcome};
-ghost use Rattle.std.specs.Prelude.{◌≡◌, true};
+ghost use Rattle.std.specs.Prelude.{◌≡◌};
 
 use crate::refusal::StoreRefusal;
-use erasure::limits::{ok_size, ok_width};
-use hash::limits::DIGEST_LEN;
+use erasure::limits::ok_width;
 use header::cell::Cell;
 use header::header::Header;
 
-// A header of this k and this share size, for its lengths and cells alone.
-fn block_of(k: usize, s: usize) -> Header
-    requires { (ok_width k ≡ true) × (ok_size s ≡ true) }
-    ensures { (result.k ≡ k) × (result.s ≡ s) }
+// A header of this k and this share size, for lengths and cells alone.
+pub fn shape_of(k: usize, s: usize) -> Result<Header, StoreRefusal>
+    ensures { outcome_by fields_of told result ≡ header_outcome (shape k s) }
 {
-    Header {
-        k: k as u16,
-        s: s as u16,
-        hash_kind: 0,
-        code_kind: 0,
-        data_root: [0u8; DIGEST_LEN],
+    if !ok_width(k) {
+        return Err(StoreRefusal::WrongWidth);
     }
-}
-
-// Whether buffers for a share and a path have the block's lengths.
-fn lengths_fit(h: &Header, share: usize, path: usize) -> bool
-    ensures { result ≡ evidence_fits (fields_of h.now) share path }
-{
-    let n = h.lengths();
-    share == n.share && path == n.path
+    // Only the share size is left to be refused.
+    Header::of_shape(k, s).or(Err(StoreRefusal::WrongShareSize))
 }
 
 // Whether a store of this k and this share size may be asked for a cell, with buffers of so many bytes for the share and the path.
@@ -45,17 +31,11 @@ pub fn question(
 ) -> Result<(), StoreRefusal>
     ensures { outcome told result ≡ question_outcome k s cell.row cell.col share path }
 {
-    if !ok_width(k) {
-        return Err(StoreRefusal::WrongWidth);
-    }
-    if !ok_size(s) {
-        return Err(StoreRefusal::WrongShareSize);
-    }
-    let h = block_of(k, s);
+    let h = shape_of(k, s)?;
     if !h.has_cell(cell) {
         return Err(StoreRefusal::OutsideSquare);
     }
-    if !lengths_fit(&h, share, path) {
+    if !h.lengths().is_evidence(share, path) {
         return Err(StoreRefusal::WrongLength);
     }
     Ok(())

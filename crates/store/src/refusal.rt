@@ -1,31 +1,18 @@
 // Why a call on a store is refused.
-use std::error::Error;
-use std::fmt;
+use thiserror::Error;
 
-#[derive(Clone, Copy, PartialEq, Eq, Debug)]
+#[derive(Clone, Copy, PartialEq, Eq, Debug, Error)]
 pub enum StoreRefusal {
+    #[error("k is not 1, 2, 4, 8, 16 or 32")]
     WrongWidth,
+    #[error("the share size is not between 1 and 512 bytes")]
     WrongShareSize,
     // A buffer or an input has not the length that it must have.
+    #[error("a buffer or an input has a wrong length")]
     WrongLength,
     // A mark is over 1.
+    #[error("a value is out of range")]
     OutOfRange,
+    #[error("the cell is outside the square")]
     OutsideSquare,
 }
-
-impl fmt::Display for StoreRefusal {
-    fn fmt<W: fmt::Write>(&self, f: &mut fmt::Formatter<W>) -> fmt::Result {
-        match self {
-            StoreRefusal::WrongWidth => write!(f, "k is not 1, 2, 4, 8, 16 or 32"),
-            StoreRefusal::WrongShareSize => write!(
-                f,
-                "the share size is not between 1 and 512 bytes"
-            ),
-            StoreRefusal::WrongLength => write!(f, "a buffer or an input has a wrong length"),
-            StoreRefusal::OutOfRange => write!(f, "a value is out of range"),
-            StoreRefusal::OutsideSquare => write!(f, "the cell is outside the square"),
-        }
-    }
-}
-
-impl Error for StoreRefusal {}

@@ -5,6 +5,7 @@ ghost use Rattle.store.specs.Refusals.{told};
 ghost use Rattle.store.specs.Showing.{Shows, Untouched, asked};
 ghost use Rattle.std.specs.Prelude.{◌≡◌, length};
 
+use crate::question::question;
 use crate::refusal::StoreRefusal;
 use header::cell::{Axis, Cell};
 
@@ -23,6 +24,19 @@ pub trait Store {
 
     fn share_size(&self) -> usize
         ensures { result ≡ (meaning self.now).s };
+
+    // Whether the store may be asked for a cell, with these buffers for the share and the path.
+    fn admit(&self, cell: Cell, share: &[u8], path: &[u8]) -> Result<(), StoreRefusal>
+        ensures { outcome told result ≡ asked (meaning self.now).k (meaning self.now).s cell.row cell.col (length share.now) (length path.now) }
+    {
+        question(
+            self.half_width(),
+            self.share_size(),
+            cell,
+            share.len(),
+            path.len(),
+        )
+    }
 
     // Answers what the store means at a cell: nothing, or the proving axis, and then it writes the share and the path.
     fn show(

@@ -22,10 +22,7 @@ pub fn take_evidence<H: Hash, S: Store>(
     ensures taken { S.Store.ordered store.old → Takes H.Hash.meaning (fields_of h.now) (S.Store.meaning store.old) (S.Store.meaning store.new) (S.Store.ordered store.new) cell.row cell.col share.old path.old result share.new path.new }
     ensures refused { Untouched (asked (S.Store.meaning store.old).k (S.Store.meaning store.old).s cell.row cell.col (length share.old) (length path.old)) store.old store.new }
 {
-    let shown = store.show(cell, share, path).unwrap_or(None);
-    let Some(axis) = shown else {
-        return None;
-    };
+    let axis = store.show(cell, share, path).unwrap_or(None)?;
     let sound = verified::<H>(h, cell, axis, share, path);
-    if sound { Some(axis) } else { None }
+    sound.then_some(axis)
 }

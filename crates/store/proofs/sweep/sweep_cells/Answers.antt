@@ -1,5 +1,6 @@
 use Rattle.std.proofs.Common.{◌≡◌, ℕ, ◌*◌, ◌/◌, ◌%◌, length, Ok, ap, ◌∙◌, subst, arith}
-use Rattle.octets.specs.Splice.{spliced}
+use Rattle.std.specs.Int.{from_bool}
+use Rattle.std.specs.Option.{is_some}
 use Rattle.header.specs.Fields.{Fields, fields_of}
 use Rattle.header.specs.Sizes.{width, cell_count, path_len}
 use Rattle.header.proofs.Measures.{measured}
@@ -41,16 +42,15 @@ loop-i-preserved g c = λ o.
     let s-is : now-m.s ≡ h.s = ap (λ (v : Meaning). v.s) inv.0 ∙ c.requires.store.1 in
     let row = row_below i n.width (omega arith) (omega arith) in
     let col = col_below i n.width (omega arith) in
-    let free : asked now-m.k now-m.s (i / n.width) (i % n.width) (length c.loop-i.share) (length c.loop-i.path) ≡ Ok tt =
+    let free : asked now-m.k now-m.s (i / n.width) (i % n.width) _ (length c.loop-i.path) ≡ Ok tt =
     admit now-m.k now-m.s (i / n.width) (i % n.width) _ _ (omega arith) (omega arith) (omega arith) (omega (arith, ap (λ k. path_len (block k 0)) k-is)) in
-    let x = c.hold-mark.ensures inv.1 free in
-    let y : Holds f h m (s.meaning c.hold-mark.new.store) (s.ordered c.hold-mark.new.store) (i / width h) (i % width h) c.hold-mark.result c.hold-mark.new.share =
+    let x = c.hold-held.ensures inv.1 free in
+    let y : Holds f h m (s.meaning c.hold-held.new.store) (s.ordered c.hold-held.new.store) (i / width h) (i % width h) (is_some c.hold-held.result) c.hold-held.new.share =
     moved f h now-m m _ _ i n.width _ _ inv.0 w x in (
       y.same,
       y.kept,
-      cells_more f h m i c.loop-i.square c.hold-mark.new.share _ inv.2 (omega arith) (omega (arith, c.hold-mark.auto.share)) (omega arith) y.bytes
-          (c.splice.ensures.written ∙ ap (λ z. spliced (i * z) c.hold-mark.new.share c.loop-i.square) size),
-      marks_more f h m i c.hold-mark.result c.loop-i.marks inv.3 (omega arith) y.mark_is,
+      cells_more f h m i _ _ c.loop-i.square c.hold-held.new.share (ap (λ z. i * z) size) (omega arith) inv.2 (omega arith) (omega (arith, c.hold-held.auto.share)) (omega arith) y.bytes,
+      marks_more f h m i _ c.loop-i.marks _ inv.3 (omega arith) (c.from.ensures ∙ ap from_bool c.is_some.ensures) y.held_is,
     )
 
 pub returns : goal.returns
