@@ -1,46 +1,39 @@
 // Climbs.
-ghost use Rattle.std.specs.Prelude.{◌*◌, ◌≤◌, length, cond, ◌≡◌};
+ghost use Rattle.std.specs.Prelude.{length, cond, true, false, MatchResult, ◌≡◌};
 ghost use Rattle.std.specs.Result.{is_ok};
 ghost use Rattle.climbs.specs.Answers.{climb_leaf_fits, climb_node_fits, is_path};
-ghost use Rattle.hash.specs.Digests.{digest_len, parts_limit};
-ghost use Rattle.merkle.specs.Climb.{above, beside, climb_leaf, climb_node, plain_rule};
-ghost use Rattle.merkle.specs.Tree.{side};
+ghost use Rattle.merkle.specs.Climb.{climb, climb_leaf, climb_node, levels, plain_rule, rungs, slots};
+ghost use Rattle.merkle.specs.Tree.{sides};
 
-use crate::node::{leaf_digest, parent_digest};
+use crate::node::{leaf, parent};
 use hash::digest::Hash;
-use hash::limits::{DIGEST_LEN, PARTS_LIMIT};
+use hash::limits::DIGEST_LEN;
 use octets::misfit::Misfit;
 
-// Puts the node above `node` in its place.
-fn ascend<H: Hash>(node: &mut [u8], place: usize, sibling: &[u8])
-    requires { (length node.old ≡ digest_len) × (length sibling.now ≡ digest_len) }
-    ensures { node.new ≡ above plain_rule H.meaning (beside (side place) sibling.now) node.old }
+// The siblings of a path, which is a row of digests.
+fn siblings(path: &[u8]) -> Result<&[[u8; DIGEST_LEN]], Misfit>
+    ensures { MatchResult result (λ s. (is_path (length path.now) ≡ true) × (s.now ≡ slots (levels path.now) path.now)) (λ _. is_path (length path.now) ≡ false) }
 {
-    let mut up = [0u8; DIGEST_LEN];
-    let _ = parent_digest::<H>(node, place, sibling, &mut up);
-    node.copy_from_slice(&up);
+    let (siblings, rest) = path.as_chunks();
+    if !rest.is_empty() {
+        return Err(Misfit);
+    }
+    Ok(siblings)
 }
 
-fn climb_up<H: Hash>(node: &mut [u8], place: usize, path: &[u8])
-    requires { length node.old ≡ digest_len }
-    ensures { node.new ≡ climb_node H.meaning place path.now node.old }
+// Climbs from `node` past all of its siblings and of those above.
+fn climb_up<H: Hash>(
+    mut node: [u8; DIGEST_LEN],
+    mut place: usize,
+    siblings: &[[u8; DIGEST_LEN]],
+) -> [u8; DIGEST_LEN]
+    ensures { result ≡ climb plain_rule H.meaning (rungs (sides (length siblings.now) place) siblings.now) node }
 {
-    let mut place = place;
-    for i in 0..path.len() / DIGEST_LEN {
-        ascend::<H>(
-            node,
-            place,
-            &path[DIGEST_LEN * i..DIGEST_LEN * i + DIGEST_LEN],
-        );
+    for sibling in siblings {
+        node = parent::<H>(&node, place, sibling);
         place /= 2;
     }
-}
-
-// Whether `len` bytes are digests one after the other.
-fn is_path(len: usize) -> bool
-    ensures { result ≡ is_path len }
-{
-    len % DIGEST_LEN == 0
+    node
 }
 
 // Climbs from `node`, which stands at `place`, by all digests of `path`, and leaves the end in `node`. Where `node` is no digest or
@@ -49,35 +42,29 @@ pub fn climb<H: Hash>(node: &mut [u8], place: usize, path: &[u8]) -> Result<(), 
     ensures answer { is_ok result ≡ climb_node_fits (length node.old) (length path.now) }
     ensures written { node.new ≡ cond (climb_node_fits (length node.old) (length path.now)) (climb_node H.meaning place path.now node.old) node.old }
 {
-    if node.len() != DIGEST_LEN || !is_path(path.len()) {
+    let Ok(start) = <[u8; DIGEST_LEN]>::try_from(&*node) else {
         return Err(Misfit);
-    }
-    climb_up::<H>(node, place, path);
+    };
+    let end = climb_up::<H>(start, place, siblings(path)?);
+    node.copy_from_slice(&end);
     Ok(())
-}
-
-fn climb_up_from_leaf<H: Hash>(value: &[u8], place: usize, path: &[u8], out: &mut [u8])
-    requires { (length value.now ≤ parts_limit) × (length out.old ≡ digest_len) }
-    ensures { out.new ≡ climb_leaf H.meaning place path.now value.now }
-{
-    let _ = leaf_digest::<H>(value, out);
-    climb_up::<H>(out, place, path);
 }
 
 // Climbs from the value of the leaf at `place` and writes the end. Where the value is too long, `out` is no digest or `path` no row of
 // them, it refuses and writes nothing.
 pub fn climb_leaf<H: Hash>(
     value: &[u8],
-    place: usize,
+    mut place: usize,
     path: &[u8],
     out: &mut [u8],
 ) -> Result<(), Misfit>
     ensures answer { is_ok result ≡ climb_leaf_fits (length value.now) (length path.now) (length out.old) }
     ensures written { out.new ≡ cond (climb_leaf_fits (length value.now) (length path.now) (length out.old)) (climb_leaf H.meaning place path.now value.now) out.old }
 {
-    if value.len() > PARTS_LIMIT || !is_path(path.len()) || out.len() != DIGEST_LEN {
+    if out.len() != DIGEST_LEN {
         return Err(Misfit);
     }
-    climb_up_from_leaf::<H>(value, place, path, out);
+    let end = climb_up::<H>(leaf::<H>(value)?, place, siblings(path)?);
+    out.copy_from_slice(&end);
     Ok(())
 }

@@ -5,7 +5,7 @@ ghost use Rattle.hash.specs.Digests.{digest_len};
 ghost use Rattle.layout.specs.Answers.{copied, has_entry, joined, put_at};
 ghost use Rattle.merkle.specs.Climb.{slot};
 
-use climbs::node::node_digest;
+use climbs::node::join;
 use hash::digest::Hash;
 use hash::limits::DIGEST_LEN;
 use octets::misfit::Misfit;
@@ -43,11 +43,6 @@ pub fn join_entries<H: Hash>(row: &mut [u8], a: usize, b: usize, to: usize) -> R
     ensures answer { is_ok result ≡ (has_entry a (length row.old) && has_entry b (length row.old) && has_entry to (length row.old)) }
     ensures written { row.new ≡ joined H.meaning a b to row.old }
 {
-    let mut node = [0u8; DIGEST_LEN];
-    let _ = node_digest::<H>(
-        entry(row, a).ok_or(Misfit)?,
-        entry(row, b).ok_or(Misfit)?,
-        &mut node,
-    );
+    let node = join::<H>(entry(row, a).ok_or(Misfit)?, entry(row, b).ok_or(Misfit)?);
     put_entry(row, to, &node)
 }

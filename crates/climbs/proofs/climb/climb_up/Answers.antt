@@ -1,19 +1,13 @@
-use mathlib.Core.Path.{sym, ap, ◌∙◌}
-use Rattle.merkle.specs.Tree.{side}
-use Rattle.merkle.specs.Climb.{plain_rule, above, beside, levels}
-use Rattle.merkle.proofs.Steps.{climb_on, climb_all, slot_cut}
+use Rattle.std.proofs.Common.{sym, refl, ◌∙◌, arith}
+use Rattle.merkle.specs.Climb.{plain_rule}
+use Rattle.merkle.proofs.Chunks.{past_on, past_end}
 use Rattle.climbs.proofs.climb.climb_up.Goals as goal
 
-pub loop-i-preserved : goal.loop-i-preserved
-loop-i-preserved g c =
-    let f = g.H.Hash.meaning in
-    let path = c.args.path.now in
-    climb_on plain_rule f (levels path) c.loop-i.i c.loop-i.place path c.loop-i.node _ c.loop-i-test.true
-    (c.ascend.ensures ∙ ap (λ s. above plain_rule f (beside (side c.loop-i.place) s) c.loop-i.node) (slot_cut c.loop-i.i path))
-    ∙ c.loop-i.invariant
+pub loop-sibling-preserved : goal.loop-sibling-preserved
+loop-sibling-preserved g c =
+    past_on plain_rule g.H.Hash.meaning c.loop-sibling.sibling-index c.loop-sibling.place c.args.siblings.now c.loop-sibling.node _ _ c.loop-sibling-test.true refl c.parent-node.ensures ∙ c.loop-sibling.invariant
 
 pub returns : goal.returns
 returns g c =
-    let path = c.args.path.now in
-    sym (climb_all plain_rule g.H.Hash.meaning (levels path) c.loop-i.i c.loop-i.place path c.loop-i.node c.loop-i-test.false)
-    ∙ c.loop-i.invariant
+    sym (past_end plain_rule g.H.Hash.meaning c.loop-sibling.sibling-index c.loop-sibling.place c.args.siblings.now c.loop-sibling.node (omega arith))
+    ∙ c.loop-sibling.invariant
