@@ -1,31 +1,49 @@
 -- Rows of digests inside a longer row, and the halves of a range of a square's rows.
-use Rattle.std.proofs.Common.{◌≡◌, ℕ, suc, ◌+◌, ◌-◌, ◌*◌, ◌^◌, ◌<◌, ◌≤◌, List, ◌++◌, length, take, drop, sym, ap, ◌∙◌, inl, inr, mul_assoc, add-mul, pow-suc, mul-add, arith, length-append, length-take}
+use Rattle.std.proofs.Common.{◌≡◌, ℕ, suc, ◌+◌, ◌-◌, ◌*◌, ◌^◌, ◌<◌, ◌≤◌, List, ◌++◌, length, take, drop, sym, ap, ◌∙◌, mul_assoc, add-mul, pow-suc, mul-add, arith, length-append, length-drop, length-take}
 use Rattle.std.proofs.lemmas.Nat.{mul-le, pow_pos}
-use Rattle.std.proofs.lemmas.List.{append_assoc, drop-drop, drop_at}
-use Rattle.std.proofs.lemmas.Bool.{cases_eq}
+use Rattle.std.proofs.lemmas.List.{append_assoc, drop-append-le, drop-drop, drop_at, length-take-le, take-append-drop, take-append-le}
+use Rattle.std.proofs.lemmas.Bool.{cond-true, le-leb}
+use borrow.Rule.Slice.PartMut.{put_mid}
 use Rattle.octets.specs.Splice.{over}
+use Rattle.octets.proofs.Cells.{put_rest}
 use Rattle.hash.specs.Digests.{digest_len}
-use Rattle.merkle.specs.Climb.{Node, slot}
+use Rattle.merkle.specs.Climb.{slot}
 use Rattle.header.proofs.Numbers.{on_row, on_column}
 use Rattle.commitment.specs.Roots.{line_leaf}
 use Rattle.commitment.specs.Values.{value_leaf}
-use Rattle.layout.proofs.Rows.{entry_here, entry_before}
+use Rattle.layout.specs.Answers.{has_entry, put_at}
 
--- one entry more from `base` on
-pub band_more : (g : ℕ → Node) (base i : ℕ) (xs ys : List ℕ) → ys ≡ over (digest_len * (base + i)) (g i) xs → length (g i) ≡ digest_len
-    → digest_len * (base + i) + digest_len ≤ length xs
-    → ((j : ℕ) → j < i → slot (base + j) xs ≡ g j) → (j : ℕ) → j < i + 1 → slot (base + j) ys ≡ g j
-band_more g base i xs ys e size within before j l =
-    ap (slot (base + j)) e
-    ∙ elim (cases_eq j i) [
-      | inl s ↦ ap (λ k. slot (base + k) (over (digest_len * (base + i)) (g i) xs)) s ∙ entry_here (base + i) (g i) xs size within ∙ ap g (sym s)
-      | inr d ↦ entry_before (base + i) (g i) xs size within (base + j) (omega arith) ∙ before j (omega arith)
-    ]
+-- a digest that is written where there is such an entry
+pub put_in : (i : ℕ) (d xs : List ℕ) → digest_len * i + digest_len ≤ length xs → put_at i d xs ≡ over (digest_len * i) d xs
+put_in i d xs h = cond-true (has_entry i (length xs)) _ _ (le-leb (digest_len * i + digest_len) (length xs) h)
 
--- and what is before `base` stays
-pub band_kept : (base i : ℕ) (d xs ys : List ℕ) → ys ≡ over (digest_len * (base + i)) d xs → length d ≡ digest_len
-    → digest_len * (base + i) + digest_len ≤ length xs → (m : ℕ) → m < base → slot m ys ≡ slot m xs
-band_kept base i d xs ys e size within m l = ap (slot m) e ∙ entry_before (base + i) d xs size within m (omega arith)
+-- an entry of the first of two rows that are joined, and one of the second, where the first has w entries
+pub slot_front : (j : ℕ) (xs ys : List ℕ) → digest_len * j + digest_len ≤ length xs → slot j (xs ++ ys) ≡ slot j xs
+slot_front j xs ys h =
+    ap (take digest_len) (drop-append-le (digest_len * j) xs ys (omega arith))
+    ∙ take-append-le digest_len (drop (digest_len * j) xs) ys (simp length-drop (omega arith))
+
+pub slot_behind : (w j : ℕ) (xs ys : List ℕ) → length xs ≡ digest_len * w → slot (w + j) (xs ++ ys) ≡ slot j ys
+slot_behind w j xs ys e =
+    let at : digest_len * (w + j) ≡ digest_len * w + digest_len * j = omega arith in
+    ap (take digest_len)
+    (ap (λ n. drop n (xs ++ ys)) at ∙ sym (drop-drop (digest_len * j) (digest_len * w) (xs ++ ys)) ∙ ap (drop (digest_len * j)) (drop_at xs ys (digest_len * w) e))
+
+pub slot_take : (j n : ℕ) (xs : List ℕ) → digest_len * j + digest_len ≤ n → n ≤ length xs → slot j (take n xs) ≡ slot j xs
+slot_take j n xs h l =
+    sym (slot_front j (take n xs) (drop n xs) (omega (arith, length-take-le n xs l))) ∙ ap (slot j) (take-append-drop n xs)
+
+-- all that is behind the first w entries is written
+module _ (w j : ℕ) (xs ys : List ℕ) (long : digest_len * w ≤ length xs) where
+  pub rest_front : j < w → slot j (put_mid (digest_len * w) (length xs - digest_len * w) xs ys) ≡ slot j xs
+  rest_front l =
+      ap (slot j) (put_rest (digest_len * w) xs ys)
+      ∙ slot_front j (take (digest_len * w) xs) ys (omega (arith, length-take-le (digest_len * w) xs long))
+      ∙ slot_take j (digest_len * w) xs (omega arith) long
+
+  pub rest_behind : slot (w + j) (put_mid (digest_len * w) (length xs - digest_len * w) xs ys) ≡ slot j ys
+  rest_behind =
+      ap (slot (w + j)) (put_rest (digest_len * w) xs ys) ∙ slot_behind w j (take (digest_len * w) xs) ys (length-take-le (digest_len * w) xs long)
 
 -- what is behind an entry stays when it is written
 pub entry_after : (i : ℕ) (d xs : List ℕ) → length d ≡ digest_len → digest_len * i + digest_len ≤ length xs

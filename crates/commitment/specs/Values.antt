@@ -2,7 +2,7 @@
 use Rattle.std.specs.Prelude.{ℕ, ◌*◌, ◌^◌, Bool, ◌&&◌, List, ◌==◌, nat_le}
 use Rattle.octets.specs.Shares.{share}
 use Rattle.hash.specs.Digests.{parts_limit}
-use Rattle.layout.specs.Answers.{is_tree}
+use Rattle.layout.specs.Answers.{depth_limit, is_tree}
 use Rattle.merkle.specs.Tree.{root}
 use Rattle.merkle.specs.Climb.{Node, plain_rule, leaf_of, join_of}
 use Rattle.merkle.specs.Layout.{tree_layout}
@@ -17,6 +17,10 @@ value_tree f d s xs = tree_layout (join_of plain_rule f) d (value_leaf f s xs)
 
 unfoldable pub value_root : (List ℕ → List ℕ) → ℕ → ℕ → List ℕ → Node
 value_root f d s xs = root (join_of plain_rule f) d (value_leaf f s xs)
+
+-- a tree can be so deep and a leaf's value so long, and 2^d values of s bytes have n bytes
+abbrev pub values_fit : ℕ → ℕ → ℕ → Bool
+values_fit d s n = nat_le d depth_limit && (nat_le s parts_limit && n == 2 ^ d * s)
 
 -- 2^d values of s bytes have n bytes, and their tree has m
 abbrev pub tree_fits : ℕ → ℕ → ℕ → ℕ → Bool

@@ -7,8 +7,8 @@ ghost use Rattle.header.specs.Fields.{fields_of};
 ghost use Rattle.header.specs.Refusals.{told};
 ghost use Rattle.std.specs.Prelude.{◌≡◌, length};
 
-use crate::roots::square_roots;
-use crate::values::value_root;
+use crate::cells::Cells;
+use crate::run::Run;
 use erasure::code::Code;
 use hash::digest::Hash;
 use hash::limits::DIGEST_LEN;
@@ -26,19 +26,14 @@ pub fn commit<H: Hash, C: Code>(
     ensures answer { outcome_by fields_of told result ≡ commit_outcome H.Hash.meaning (blank k s H.Hash.kind C.Code.kind) square.now (length roots.old) }
     ensures written { roots.new ≡ written (commit_outcome H.Hash.meaning (blank k s H.Hash.kind C.Code.kind) square.now (length roots.old)) (roots_of H.Hash.meaning (blank k s H.Hash.kind C.Code.kind) square.now) roots.old }
 {
-    let h = make_header(k, s, H::kind_byte(), C::kind_byte(), &[0u8; DIGEST_LEN])?;
-    if !square_roots::<H>(&h, square, roots) {
-        return Err(SquareRefusal::WrongLength);
-    }
-    let depth = h.lengths().depth;
-    let Some(data_root) = value_root::<H>(roots, DIGEST_LEN, depth + 1) else {
-        unreachable()
+    let mut h = make_header(k, s, H::kind_byte(), C::kind_byte(), &[0u8; DIGEST_LEN])?;
+    let cells = Cells::of(&h, square)?;
+    cells.roots::<H>(roots)?;
+    let leaves = Run {
+        values: roots,
+        size: DIGEST_LEN,
+        depth: cells.lengths.depth + 1,
     };
-    Ok(Header {
-        k: h.k,
-        s: h.s,
-        hash_kind: h.hash_kind,
-        code_kind: h.code_kind,
-        data_root,
-    })
+    h.data_root = leaves.root::<H>();
+    Ok(h)
 }

@@ -2,7 +2,9 @@
 #![tactic(auto)]
 
 mod bands;
+pub mod cells;
 pub mod commit;
 pub mod line;
 pub mod roots;
+mod run;
 pub mod values;

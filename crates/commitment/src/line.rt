@@ -1,63 +1,73 @@
 // The tree of one line of a square.
-ghost use Rattle.std.specs.Prelude.{◌≡◌, ℕ, ◌+◌, ◌*◌, ◌^◌, ◌<◌, ◌≤◌, length, if◌then◌else◌};
+ghost use Rattle.std.specs.Prelude.{◌≡◌, ℕ, ◌*◌, ◌<◌, ◌≤◌, ◌&&◌, nat_lt, ◌==◌, length, if◌then◌else◌};
+ghost use Rattle.std.specs.Result.{is_ok};
 ghost use Rattle.commitment.specs.Roots.{line_fits, line_leaf, line_tree};
 ghost use Rattle.hash.specs.Digests.{digest_len};
 ghost use Rattle.header.specs.Fields.{fields_of};
-ghost use Rattle.merkle.specs.Climb.{join_of, plain_rule, slot};
-ghost use Rattle.merkle.specs.Layout.{tree_layout, tree_len};
+ghost use Rattle.header.specs.Sizes.{axis_tree_len, cell_on, line_count};
+ghost use Rattle.merkle.specs.Climb.{slot};
 
-use crate::roots::cell_on;
-use crate::values::put_leaf;
+use crate::cells::Cells;
+use crate::values::leaf;
 use hash::digest::Hash;
 use header::header::Header;
+use layout::entry::put_entry;
 use layout::grow::grow;
+use octets::misfit::Misfit;
 
-// Writes the leaf digests of line n as entries from `base` on.
-pub(crate) fn put_line<H: Hash>(
-    square: &[u8],
-    size: usize,
-    width: usize,
-    n: usize,
-    base: usize,
-    entries: &mut [u8],
-)
-    requires line { (size ≤ 512) × ((width ≤ 64) × (n < 2 * width)) }
-    requires room { (length square.now ≡ width * width * size) × (digest_len * (base + width) ≤ length entries.old) }
-    ensures leaves { (j : ℕ) → j < width → slot (base + j) entries.new ≡ line_leaf H.meaning width size square.now n j }
-    ensures kept { (m : ℕ) → m < base → slot m entries.new ≡ slot m entries.old }
+// In a square of this width, the number of the cell at place p of line n.
+fn cell_on(width: usize, n: usize, p: usize) -> usize
+    requires { (width ≤ 64) × ((n < 2 * width) × (p < width)) }
+    ensures { result ≡ cell_on width n p }
 {
-    for p in 0..width {
-        put_leaf::<H>(square, size, cell_on(width, n, p), entries, base + p);
+    if n < width {
+        n * width + p
+    } else {
+        p * width + (n - width)
     }
 }
 
-// Lays out the tree of line n.
-fn grow_line<H: Hash>(
+impl Cells<'_> {
+    // Writes the digests of the cells of line n as entries one after the other.
+    pub(crate) fn put_line<H: Hash>(&self, n: usize, entries: &mut [u8])
+        requires line { n < 2 * self.now.lengths.width }
+        requires room { digest_len * self.now.lengths.width ≤ length entries.old }
+        ensures { (j : ℕ) → j < self.now.lengths.width → slot j entries.new ≡ line_leaf H.meaning self.now.lengths.width self.now.lengths.share self.now.shares.now n j }
+    {
+        let width = self.lengths.width;
+        for p in 0..width {
+            let cell = cell_on(width, n, p);
+            let _ = put_entry(
+                entries,
+                p,
+                &leaf::<H>(self.shares, self.lengths.share, cell),
+            );
+        }
+    }
+
+    // Lays out the tree of line n. Where the block has no such line, or the buffer is not a line's tree, it refuses and writes nothing.
+    pub fn line_tree<H: Hash>(&self, n: usize, tree: &mut [u8]) -> Result<(), Misfit>
+        ensures answer { is_ok result ≡ (nat_lt n (line_count (fields_of self.now.header.now)) && length tree.old == axis_tree_len (fields_of self.now.header.now)) }
+        ensures written { tree.new ≡ (if nat_lt n (line_count (fields_of self.now.header.now)) && length tree.old == axis_tree_len (fields_of self.now.header.now) then line_tree H.meaning (fields_of self.now.header.now) self.now.shares.now n else tree.old) }
+    {
+        if n >= self.lengths.lines || tree.len() != self.lengths.axis_tree {
+            return Err(Misfit);
+        }
+        self.put_line::<H>(n, tree);
+        grow::<H>(tree, self.lengths.depth)
+    }
+}
+
+// Lays out the tree of line n of a square. Where the block has no such line, or the lengths are not the block's, it refuses and
+// writes nothing.
+pub fn line_tree<H: Hash>(
+    h: &Header,
     square: &[u8],
-    size: usize,
-    width: usize,
-    depth: usize,
     n: usize,
     tree: &mut [u8],
-)
-    requires line { (size ≤ 512) × ((width ≤ 64) × ((n < 2 * width) × ((width ≡ 2 ^ depth) × (depth ≤ 6)))) }
-    requires room { (length square.now ≡ width * width * size) × (length tree.old ≡ tree_len depth) }
-    ensures { tree.new ≡ tree_layout (join_of plain_rule H.meaning) depth (line_leaf H.meaning width size square.now n) }
-{
-    put_line::<H>(square, size, width, n, 0, tree);
-    grow::<H>(tree, depth);
-}
-
-// Lays out the tree of line n of a square. Where the block has no such line, or the lengths are not the block's, it answers false and
-// writes nothing.
-pub fn line_tree<H: Hash>(h: &Header, square: &[u8], n: usize, tree: &mut [u8]) -> bool
-    ensures answer { result ≡ line_fits (fields_of h.now) n (length square.now) (length tree.old) }
+) -> Result<(), Misfit>
+    ensures answer { is_ok result ≡ line_fits (fields_of h.now) n (length square.now) (length tree.old) }
     ensures written { tree.new ≡ (if line_fits (fields_of h.now) n (length square.now) (length tree.old) then line_tree H.meaning (fields_of h.now) square.now n else tree.old) }
 {
-    let m = h.lengths();
-    if n >= m.lines || square.len() != m.square || tree.len() != m.axis_tree {
-        return false;
-    }
-    grow_line::<H>(square, m.share, m.width, m.depth, n, tree);
-    true
+    Cells::of(h, square)?.line_tree::<H>(n, tree)
 }

@@ -1,91 +1,97 @@
 // Trees over values that lie one after the other.
-ghost use Rattle.std.specs.Prelude.{◌≡◌, ℕ, ◌+◌, ◌*◌, ◌^◌, ◌<◌, ◌≤◌, length, if◌then◌else◌, Some, None};
-ghost use Rattle.octets.specs.Shares.{share};
-ghost use Rattle.octets.specs.Splice.{over};
-ghost use Rattle.commitment.specs.Values.{root_fits, tree_fits, value_leaf, value_root, value_tree};
+ghost use Rattle.std.specs.Prelude.{◌≡◌, ℕ, ◌+◌, ◌*◌, ◌^◌, ◌<◌, ◌≤◌, ◌==◌, ◌&&◌, nat_le, length, if◌then◌else◌, Some, None, IfOk};
+ghost use Rattle.std.specs.Result.{is_ok};
+ghost use Rattle.commitment.specs.Values.{root_fits, tree_fits, value_leaf, value_root, value_tree, values_fit};
 ghost use Rattle.hash.specs.Digests.{digest_len, parts_limit};
-ghost use Rattle.merkle.specs.Climb.{slot};
+ghost use Rattle.layout.specs.Answers.{depth_limit};
+ghost use Rattle.merkle.specs.Climb.{join_of, plain_rule, slot};
 ghost use Rattle.merkle.specs.Layout.{tree_len};
+ghost use Rattle.merkle.specs.Tree.{root};
 
+use crate::run::Run;
 use climbs::node::leaf_digest;
 use hash::digest::Hash;
-use hash::limits::{DIGEST_LEN, PARTS_LIMIT};
+use hash::limits::DIGEST_LEN;
 use layout::cut::tree_root;
+use layout::entry::put_entry;
 use layout::grow::grow;
 use layout::size::{is_tree, leaves};
-use octets::splice::splice;
+use octets::misfit::Misfit;
 
-// The tree over the roots of the largest square.
+// Levels of the deepest data tree above its leaves.
+const DATA_DEPTH: usize = 7;
+
+// Its bytes. The library allocates nothing, so a smaller tree takes the front of as much.
 const TREE_ROOM: usize = 8160;
 
-// Writes the digest of the value with number `from`, of `size` bytes, to entry `to`.
-pub(crate) fn put_leaf<H: Hash>(
-    values: &[u8],
-    size: usize,
-    from: usize,
-    entries: &mut [u8],
-    to: usize,
-)
-    requires value { (size ≤ parts_limit) × ((from < 2 ^ 32) × (from * size + size ≤ length values.now)) }
-    requires room { digest_len * to + digest_len ≤ length entries.old }
-    ensures { entries.new ≡ over (digest_len * to) (value_leaf H.meaning size values.now from) entries.old }
+// The digest of the value with number `n`, of `size` bytes.
+pub(crate) fn leaf<H: Hash>(values: &[u8], size: usize, n: usize) -> [u8; DIGEST_LEN]
+    requires { (size ≤ parts_limit) × ((n < 2 ^ 32) × (n * size + size ≤ length values.now)) }
+    ensures { result ≡ value_leaf H.meaning size values.now n }
 {
     let mut leaf = [0u8; DIGEST_LEN];
-    let _ = leaf_digest::<H>(&values[from * size..from * size + size], &mut leaf);
-    splice(entries, DIGEST_LEN * to, &leaf);
+    let _ = leaf_digest::<H>(&values[n * size..n * size + size], &mut leaf);
+    leaf
 }
 
-// Writes the digests of `count` values as entries one after the other.
-pub(crate) fn put_leaves<H: Hash>(values: &[u8], size: usize, count: usize, entries: &mut [u8])
-    requires { (size ≤ parts_limit) × ((count < 2 ^ 32) × ((length values.now ≡ count * size) × (digest_len * count ≤ length entries.old))) }
-    ensures { (j : ℕ) → j < count → slot j entries.new ≡ value_leaf H.meaning size values.now j }
+// Grows the tree over the digests in front of `tree` and gives its root.
+pub(crate) fn grown_root<H: Hash>(tree: &mut [u8], depth: usize) -> [u8; DIGEST_LEN]
+    requires { (depth ≤ depth_limit) × (length tree.old ≡ tree_len depth) }
+    ensures { result ≡ root (join_of plain_rule H.meaning) depth (λ i. slot i tree.old) }
 {
-    for i in 0..count {
-        put_leaf::<H>(values, size, i, entries, i);
+    let mut top = [0u8; DIGEST_LEN];
+    let _ = grow::<H>(tree, depth);
+    let _ = tree_root(tree, depth, &mut top);
+    top
+}
+
+impl Run<'_> {
+    // Writes the digests of the values as entries one after the other.
+    fn put_leaves<H: Hash>(&self, entries: &mut [u8])
+        requires { digest_len * 2 ^ self.now.depth ≤ length entries.old }
+        ensures { (j : ℕ) → j < 2 ^ self.now.depth → slot j entries.new ≡ value_leaf H.meaning self.now.size self.now.values.now j }
+    {
+        for i in 0..leaves(self.depth) {
+            let _ = put_entry(entries, i, &leaf::<H>(self.values, self.size, i));
+        }
+    }
+
+    // The root of the tree over the values, which is worked out in `tree`.
+    fn root_in<H: Hash>(&self, tree: &mut [u8]) -> [u8; DIGEST_LEN]
+        requires { length tree.old ≡ tree_len self.now.depth }
+        ensures { result ≡ value_root H.meaning self.now.depth self.now.size self.now.values.now }
+    {
+        self.put_leaves::<H>(tree);
+        grown_root::<H>(tree, self.depth)
+    }
+
+    // The same with room of its own.
+    pub(crate) fn root<H: Hash>(&self) -> [u8; DIGEST_LEN]
+        requires { self.now.depth ≤ 7 }
+        ensures { result ≡ value_root H.meaning self.now.depth self.now.size self.now.values.now }
+    {
+        let mut space = [0u8; TREE_ROOM];
+        let tree = &mut space[..DIGEST_LEN * (2 * leaves(self.depth) - 1)];
+        self.root_in::<H>(tree)
     }
 }
 
-// Whether 2^depth values of `size` bytes have `len` bytes and `room` bytes hold their tree.
-fn tree_fits(depth: usize, size: usize, len: usize, room: usize) -> bool
-    ensures { result ≡ tree_fits depth size len room }
-{
-    is_tree(depth, room) && (size <= PARTS_LIMIT && len == leaves(depth) * size)
-}
-
-fn grow_values<H: Hash>(values: &[u8], size: usize, depth: usize, tree: &mut [u8])
-    requires { (depth ≤ 16) × ((size ≤ parts_limit) × ((length values.now ≡ 2 ^ depth * size) × (length tree.old ≡ tree_len depth))) }
-    ensures { tree.new ≡ value_tree H.meaning depth size values.now }
-{
-    put_leaves::<H>(values, size, leaves(depth), tree);
-    grow::<H>(tree, depth);
-}
-
-// Lays out the tree over 2^depth values of `size` bytes. Where the lengths do not fit, it answers false and writes nothing.
-pub fn value_tree<H: Hash>(values: &[u8], size: usize, depth: usize, tree: &mut [u8]) -> bool
-    ensures answer { result ≡ tree_fits depth size (length values.now) (length tree.old) }
+// Lays out the tree over 2^depth values of `size` bytes. Where the lengths do not fit, it refuses and writes nothing.
+pub fn value_tree<H: Hash>(
+    values: &[u8],
+    size: usize,
+    depth: usize,
+    tree: &mut [u8],
+) -> Result<(), Misfit>
+    ensures answer { is_ok result ≡ tree_fits depth size (length values.now) (length tree.old) }
     ensures written { tree.new ≡ (if tree_fits depth size (length values.now) (length tree.old) then value_tree H.meaning depth size values.now else tree.old) }
 {
-    let fits = tree_fits(depth, size, values.len(), tree.len());
-    if fits {
-        grow_values::<H>(values, size, depth, tree);
+    let run = Run::of(values, size, depth)?;
+    if !is_tree(depth, tree.len()) {
+        return Err(Misfit);
     }
-    fits
-}
-
-// Writes the root of the tree over 2^depth values, which is worked out in `tree`.
-fn root_to<H: Hash>(values: &[u8], size: usize, depth: usize, tree: &mut [u8], top: &mut [u8])
-    requires { (depth ≤ 16) × ((size ≤ parts_limit) × ((length values.now ≡ 2 ^ depth * size) × ((length tree.old ≡ tree_len depth) × (length top.old ≡ digest_len)))) }
-    ensures { top.new ≡ value_root H.meaning depth size values.now }
-{
-    grow_values::<H>(values, size, depth, tree);
-    tree_root(tree, depth, top);
-}
-
-// Whether there is a root over 2^depth values of `size` bytes that have `len` bytes.
-fn root_fits(depth: usize, size: usize, len: usize) -> bool
-    ensures { result ≡ root_fits depth size len }
-{
-    depth <= 7 && (size <= PARTS_LIMIT && len == leaves(depth) * size)
+    run.put_leaves::<H>(tree);
+    grow::<H>(tree, depth)
 }
 
 // The root of the tree over 2^depth values of `size` bytes; none where the values have another length or the tree would be deeper
@@ -93,12 +99,9 @@ fn root_fits(depth: usize, size: usize, len: usize) -> bool
 pub fn value_root<H: Hash>(values: &[u8], size: usize, depth: usize) -> Option<[u8; DIGEST_LEN]>
     ensures { result ≡ (if root_fits depth size (length values.now) then Some (value_root H.meaning depth size values.now) else None) }
 {
-    if !root_fits(depth, size, values.len()) {
+    if depth > DATA_DEPTH {
         return None;
     }
-    let mut space = [0u8; TREE_ROOM];
-    let mut top = [0u8; DIGEST_LEN];
-    let tree = &mut space[0..DIGEST_LEN * (2 * leaves(depth) - 1)];
-    root_to::<H>(values, size, depth, tree, &mut top);
-    Some(top)
+    let run = Run::of(values, size, depth).ok()?;
+    Some(run.root::<H>())
 }

@@ -2,10 +2,8 @@ use Rattle.std.proofs.Common.{◌≡◌, ℕ, ◌+◌, ◌<◌, ◌≤◌}
 use Rattle.merkle.specs.Climb.{join_of, plain_rule, slot}
 use Rattle.commitment.proofs.bands.join_rows.Given as goal
 
--- the places that are joined, those that are not, and what is before them
+-- the places that are joined, and those that are not
 abbrev pub invariant-loop-j : goal.invariant-loop-j
 invariant-loop-j g l =
-    ((m : ℕ) → m < l.j
-    → slot (l.base + m) l.work ≡ join_of plain_rule g.H.Hash.meaning (slot (l.base + m) l.initial.work) (slot (l.base + l.width + m) l.initial.work))
-    × ((m : ℕ) → l.base + l.j ≤ m → slot m l.work ≡ slot m l.initial.work)
-    × ((m : ℕ) → m < l.base → slot m l.work ≡ slot m l.initial.work)
+    ((m : ℕ) → m < l.j → slot m l.work ≡ join_of plain_rule g.H.Hash.meaning (slot m l.initial.work) (slot (l.width + m) l.initial.work))
+    × ((m : ℕ) → l.j ≤ m → slot m l.work ≡ slot m l.initial.work)

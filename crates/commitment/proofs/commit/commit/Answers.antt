@@ -1,21 +1,19 @@
-use Rattle.std.proofs.Common.{◌+◌, eqb, length, sym, ap, ◌∙◌}
-use Rattle.std.proofs.lemmas.Bool.{cond-true, and_parts, eqb-true}
+use Rattle.std.proofs.Common.{◌≡◌, length, sym, ap, arith}
+use Rattle.std.proofs.lemmas.Bool.{eqb-true}
 use Rattle.header.specs.Fields.{fields_of}
-use Rattle.header.specs.Sizes.{square_len, roots_len}
-use Rattle.hash.specs.Digests.{digest_len}
-use Rattle.commitment.specs.Values.{root_fits}
-use Rattle.commitment.proofs.Fitting.{roots_fit}
+use Rattle.header.specs.Sizes.{roots_len}
+use Rattle.commitment.proofs.Fitting.{cells_measured}
 use Rattle.commitment.proofs.commit.commit.Goals as goal
 
--- the roots have the block's length, so they have a root
-pub unreachable-requires : goal.unreachable-requires
-unreachable-requires g c =
-    let h = c.in_ok-h.h in
-    let f = fields_of h in
-    let n = length c.args.roots.now in
-    let fits = and_parts (eqb (length c.args.square.now) (square_len f)) (eqb n (roots_len f)) (sym c.if-not-square_roots.ensures.answer) in
-    let d = ap (λ l. l.depth) c.lengths-depth.ensures in
-    c.in_default.not-Some _
-    (c.value_root.ensures
-    ∙ cond-true (root_fits (c.lengths-depth.result.depth + 1) digest_len (length c.square_roots.new.roots)) _ _
-    (roots_fit f c.lengths-depth.result.depth (length c.square_roots.new.roots) h.width d (c.square_roots.auto.roots ∙ eqb-true n (roots_len f) fits.1)))
+pub root-h-requires : goal.root-h-requires
+root-h-requires g c =
+    let s = c.in_ok-cells.cells in
+    let m = cells_measured s.header.now s.lengths s.measured in
+    omega (arith, m.deep)
+
+pub invariant_of-leaves : goal.invariant_of-leaves
+invariant_of-leaves g c =
+    let s = c.in_ok-cells.cells in
+    let m = cells_measured s.header.now s.lengths s.measured in
+    let long : length c.args.roots.now ≡ roots_len (fields_of s.header.now) = eqb-true (length c.args.roots.now) (roots_len (fields_of s.header.now)) (sym c.in_ok-roots.ensures.answer) in
+    record { hashed = omega arith; deep = omega (arith, m.deep); whole = omega (arith, m.above, m.roots, ap (λ l. l.roots) s.measured, c.roots.auto.roots, long) }
