@@ -60,6 +60,11 @@ admitted k s r c n p h =
       path = eqb-true p (path_len (block k s)) b.1;
     }
 
+-- the cell is inside
+pub inside : (k s r c n p : ℕ) → asked k s r c n p ≡ Ok tt → has_cell (block k s) r c ≡ true
+unfolding asked
+inside k s r c n p h = (both_tests (has_cell (block k s) r c) (evidence_fits (block k s) n p) h).0
+
 pub admit : (k s r c n p : ℕ) → r < 2 * k → c < 2 * k → n ≡ s → p ≡ path_len (block k s) → asked k s r c n p ≡ Ok tt
 unfolding asked
 admit k s r c n p hr hc hn hp = rw (lt-ltb r (2 * k) hr, lt-ltb c (2 * k) hc, eq-eqb n s hn, eq-eqb p (path_len (block k s)) hp)

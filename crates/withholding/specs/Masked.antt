@@ -1,5 +1,6 @@
 -- What a store means with some of its cells withheld.
-use Rattle.std.specs.Prelude.{ℕ, Bool, true, false, cond, not, ◌&&◌, List, [], ◌∷◌, length, get_or, None, Ok, Err, Result, ◌==◌, nat_eq, nat_le, slice_index, slice_index_or}
+use Rattle.std.specs.Prelude.{ℕ, Bool, false, cond, not, List, length, get_or, None, Ok, Err, Result, ◌==◌, nat_eq, nat_le, slice_index, slice_index_or}
+use Rattle.std.specs.List.{list_all}
 use Rattle.octets.specs.Outcome.{Refused, plain}
 use Rattle.header.specs.Sizes.{cell_count, cell_number}
 use Rattle.store.specs.Meaning.{Meaning, block}
@@ -22,9 +23,8 @@ abbrev pub hiding : Meaning → List ℕ → Meaning
 hiding m marks = without m (λ i. nat_eq (slice_index marks i) 1)
 
 -- each mark is 0 or 1
-unfoldable pub all_marks : List ℕ → Bool
-all_marks [] = true
-all_marks (x ∷ xs) = nat_le x 1 && all_marks xs
+abbrev pub all_marks : List ℕ → Bool
+all_marks marks = list_all (λ m. nat_le m 1) marks
 
 -- what withholding answers over a store that means m: refused by 3 for another number of marks than there are cells, by 11 for a mark
 -- over 1

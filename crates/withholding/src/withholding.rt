@@ -1,13 +1,15 @@
 // The layer, its set of cells, and what it shows.
-ghost use Rattle.std.specs.Prelude.{◌≡◌, ℕ, ◌+◌, ◌*◌, ◌<◌, ◌≤◌, true, false, length, replicate, ◌==◌, slice_index, slice_index_or};
+ghost use Rattle.std.specs.Prelude.{◌≡◌, ℕ, ◌+◌, ◌*◌, ◌<◌, ◌≤◌, ◌&&◌, true, false, length, replicate, ◌==◌, slice_index, slice_index_or};
 ghost use Rattle.octets.specs.Outcome.{outcome};
 ghost use Rattle.octets.specs.Written.{written};
+ghost use Rattle.header.specs.Sizes.{has_cell};
+ghost use Rattle.store.specs.Meaning.{block};
 ghost use Rattle.store.specs.Refusals.{told};
 ghost use Rattle.store.specs.Showing.{Shows, Untouched, asked};
 ghost use Rattle.withholding.specs.Masked.{all_marks, hides, hiding, masked, withhold_outcome};
 
 use header::cell::{Axis, Cell};
-use store::question::question;
+use store::question::shape_of;
 use store::refusal::StoreRefusal;
 use store::store::Store;
 
@@ -21,25 +23,11 @@ pub struct Withholding<S> {
     hidden: [bool; MOST_CELLS],
 }
 
-// The number of a cell, row by row.
-fn cell_number(k: usize, cell: Cell) -> usize
-    requires { (k ≤ 32) × ((cell.row < 2 * k) × (cell.col < 2 * k)) }
-    ensures is { result ≡ cell.row * (2 * k) + cell.col }
-    ensures small { result < 4096 }
-{
-    cell.row as usize * (2 * k) + cell.col as usize
-}
-
 // Whether each mark is 0 or 1.
 fn all_marks(marks: &[u8]) -> bool
     ensures { result ≡ all_marks marks.now }
 {
-    for m in marks {
-        if *m > 1 {
-            return false;
-        }
-    }
-    true
+    marks.iter().all(|mark| *mark <= 1)
 }
 
 // Hides the cells whose mark is 1 and shows all others.
@@ -47,9 +35,9 @@ fn hide(hidden: &mut [bool], marks: &[u8])
     requires { length marks.now ≤ length hidden.old }
     ensures { (i : ℕ) → slice_index_or hidden.new i false ≡ (slice_index marks.now i == 1) }
 {
-    hidden.fill(false);
-    for i in 0..marks.len() {
-        hidden[i] = marks[i] == 1;
+    let mut marks = marks.iter();
+    for is_hidden in hidden.iter_mut() {
+        *is_hidden = marks.next() == Some(&1);
     }
 }
 
@@ -83,6 +71,19 @@ impl<S: Store> Withholding<S> {
         hide(&mut self.hidden, marks);
         Ok(())
     }
+
+    // Whether a cell is inside the square and hidden.
+    fn hides(&self, cell: Cell) -> bool
+        ensures { result ≡ (has_cell (block (S.Store.meaning self.now.below).k (S.Store.meaning self.now.below).s) cell.row cell.col && hides (S.Store.meaning self.now.below) self.now.hidden cell.row cell.col) }
+    {
+        let Ok(shape) = shape_of(self.below.half_width(), self.below.share_size()) else {
+            return false;
+        };
+        match shape.cell_number(cell) {
+            Some(number) => self.hidden[number],
+            None => false,
+        }
+    }
 }
 
 impl<S: Store> Store for Withholding<S> {
@@ -111,10 +112,8 @@ impl<S: Store> Store for Withholding<S> {
         ensures refused { Untouched (asked (S.Store.meaning self.old.below).k (S.Store.meaning self.old.below).s cell.row cell.col (length share.old) (length path.old)) self.old self.new }
         ensures unasked { hides (S.Store.meaning self.old.below) self.old.hidden cell.row cell.col ≡ true → self.new ≡ self.old }
     {
-        let k = self.below.half_width();
-        let s = self.below.share_size();
-        question(k, s, cell, share.len(), path.len())?;
-        if self.hidden[cell_number(k, cell)] {
+        self.admit(cell, share, path)?;
+        if self.hides(cell) {
             return Ok(None);
         }
         self.below.show(cell, share, path)

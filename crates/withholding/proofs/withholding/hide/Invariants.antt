@@ -1,7 +1,7 @@
-use Rattle.std.proofs.Common.{◌≡◌, ℕ, ◌<◌, ◌≤◌, false, eqb, get_or}
+use Rattle.std.proofs.Common.{◌≡◌, ℕ, ◌+◌, ◌<◌, false, eqb, get_or}
 use Rattle.withholding.proofs.withholding.hide.Given as goal
 
-abbrev pub invariant-loop-i : goal.invariant-loop-i
-invariant-loop-i l =
-    ((j : ℕ) → j < l.i → get_or l.hidden j false ≡ eqb (get_or l.marks j 0) 1)
-    × ((j : ℕ) → l.i ≤ j → get_or l.hidden j false ≡ false)
+abbrev pub invariant-loop-is_hidden : goal.invariant-loop-is_hidden
+invariant-loop-is_hidden l =
+    ((j : ℕ) → get_or l.marks.rest.now j 0 ≡ get_or l.fn.marks (l.is_hidden-index + j) 0)
+    × ((j : ℕ) → j < l.is_hidden-index → get_or l.hidden j false ≡ eqb (get_or l.fn.marks j 0) 1)
