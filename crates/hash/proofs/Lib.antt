@@ -1,1 +1,2 @@
+pub mod BlockSize
 pub mod Digested

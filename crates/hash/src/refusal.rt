@@ -1,22 +1,12 @@
 // Why a digest is refused.
-use std::error::Error;
-use std::fmt;
+use thiserror::Error;
 
-#[derive(Clone, Copy, PartialEq, Eq, Debug)]
+#[derive(Clone, Copy, PartialEq, Eq, Debug, Error)]
 pub enum DigestRefusal {
     // The two parts have over 4,096 bytes together.
+    #[error("the parts have over 4096 bytes together")]
     TooLong,
     // The buffer has not the length of a digest.
+    #[error("the buffer has not the length of a digest")]
     WrongLength,
 }
-
-impl fmt::Display for DigestRefusal {
-    fn fmt<W: fmt::Write>(&self, f: &mut fmt::Formatter<W>) -> fmt::Result {
-        match self {
-            DigestRefusal::TooLong => write!(f, "the parts have over 4096 bytes together"),
-            DigestRefusal::WrongLength => write!(f, "the buffer has not the length of a digest"),
-        }
-    }
-}
-
-impl Error for DigestRefusal {}

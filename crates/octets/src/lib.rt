@@ -3,5 +3,6 @@
 
 pub mod compare;
 pub mod misfit;
+pub mod parts;
 pub mod splice;
 pub mod window;

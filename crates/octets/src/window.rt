@@ -1,6 +1,6 @@
-// Blocks cut from a message that lies in parts.
-ghost use Rattle.std.specs.Prelude.{◌≡◌, ℕ, ◌+◌, ◌-◌, ◌<◌, ◌≤◌, ◌++◌, length, replicate, slice_index};
-ghost use Rattle.octets.specs.Window.{laid, overlaid_at, window};
+// Parts of a message laid over a block of it.
+ghost use Rattle.std.specs.Prelude.{◌≡◌, ℕ, ◌+◌, ◌-◌, ◌<◌, ◌≤◌, length, replicate, slice_index};
+ghost use Rattle.octets.specs.Window.{laid, overlaid_at};
 
 // Writes the bytes of `part` from place `from` on into `block` from place `at` on, as many as there are and as fit.
 fn overlay(block: &mut [u8], at: usize, part: &[u8], from: usize)
@@ -15,7 +15,7 @@ fn overlay(block: &mut [u8], at: usize, part: &[u8], from: usize)
 
 // Lays a part of a message over a block of it. The block begins at place `start` of the message and the part at place `begin`; bytes
 // of the block that the part does not cover stay.
-fn lay(block: &mut [u8], start: usize, begin: u128, part: &[u8])
+pub(crate) fn lay(block: &mut [u8], start: usize, begin: u128, part: &[u8])
     ensures { block.new ≡ laid block.old start begin part.now }
 {
     let start = start as u128;
@@ -37,27 +37,4 @@ pub fn clear(block: &mut [u8])
     ensures { block.new ≡ replicate (length block.old) 0 }
 {
     block.fill(0);
-}
-
-// Lays the four parts of a message, one after the other, over a block of zeros.
-fn lay_parts(block: &mut [u8], start: usize, head: &[u8], left: &[u8], right: &[u8], tail: &[u8])
-    requires { block.old ≡ replicate (length block.old) 0 }
-    ensures { block.new ≡ window (head.now ++ (left.now ++ right.now) ++ tail.now) start (length block.old) }
-{
-    let after_head = head.len() as u128;
-    let after_left = after_head + left.len() as u128;
-    let after_right = after_left + right.len() as u128;
-    lay(block, start, 0, head);
-    lay(block, start, after_head, left);
-    lay(block, start, after_left, right);
-    lay(block, start, after_right, tail);
-}
-
-// Fills a block with the bytes of a message from place `start` on, 0 where the message has ended. The message is `head`, `left`,
-// `right` and `tail`, one after the other.
-pub fn gather(block: &mut [u8], start: usize, head: &[u8], left: &[u8], right: &[u8], tail: &[u8])
-    ensures { block.new ≡ window (head.now ++ (left.now ++ right.now) ++ tail.now) start (length block.old) }
-{
-    clear(block);
-    lay_parts(block, start, head, left, right, tail);
 }

@@ -1,5 +1,5 @@
 -- Padding, and blocks cut from a message.
-use Rattle.std.proofs.Common.{◌≡◌, ℕ, ◌+◌, ◌*◌, ◌<◌, ◌≤◌, List, ◌++◌, map, length, get_or, take, set, replicate, sym, refl, ap, ◌∙◌, add-one, arith, length-set}
+use Rattle.std.proofs.Common.{◌≡◌, ℕ, ◌+◌, ◌*◌, ◌/◌, ◌%◌, ◌^◌, ◌<◌, ◌≤◌, List, ◌++◌, map, length, get_or, take, set, replicate, sym, refl, ap, ◌∙◌, add-one, arith, length-set}
 use lib.ListN.{length-replicate}
 use borrow.Rule.Slice.PartMut.{put_mid}
 use Rattle.std.specs.List.{range_with_len}
@@ -43,13 +43,18 @@ block_window p start =
         let d = at k 3 h (omega arith) in
         cc
 
-pub block_next : (p block m : List ℕ) (start : ℕ) → block ≡ window p start 64 → m ≡ block_at block 0 → m ≡ block_at p start
-block_next p block m start e h = h ∙ ap (λ b. block_at b 0) e ∙ block_window p start
+pub block_next : (p block : List ℕ) (start : ℕ) → block ≡ window p start 64 → block_at block 0 ≡ block_at p start
+block_next p block start e = ap (λ b. block_at b 0) e ∙ block_window p start
 
--- the words of a block
-pub words_all : (block m : List ℕ) → length m ≡ 16 → ((k : ℕ) → k < 16 → get_or m k 0 ≡ word_at block (0 + 4 * k)) → m ≡ block_at block 0
+-- a block has sixteen words
+pub block_length : (p : List ℕ) (q : ℕ) → length (block_at p q) ≡ 16
 unfolding block_at
-words_all block m l h = fill_by_all (λ t. word_at block (0 + 4 * t)) m 16 0 l h
+block_length p q = refl
+
+pub block_word : (p : List ℕ) (t : ℕ) → t < 16 → word_at p (4 * t) ≡ get_or (block_at p 0) t 0
+unfolding block_at
+block_word p t h =
+    ap (word_at p) (omega arith) ∙ sym (get_or-map-range_with_len (λ t. word_at p (0 + 4 * t)) 0 16 t t 0 h (omega arith))
 
 pub value_none : (p : List ℕ) → initial ≡ value_after p 0
 unfolding value_after
@@ -58,3 +63,16 @@ value_none p = refl
 pub value_more : (p v u : List ℕ) (n : ℕ) → v ≡ value_after p n → u ≡ compressed v (block_at p (64 * n)) → u ≡ value_after p (n + 1)
 unfolding value_after
 value_more p v u n e h = h ∙ ap (λ x. compressed x (block_at p (64 * n))) e ∙ ap (value_after p) (sym (add-one n))
+
+-- the highest bits of a number do not reach its last eight bytes
+pub long_wraps : (x : ℕ) → long_bytes (x % 2 ^ 64) ≡ long_bytes x
+long_wraps x =
+    let a : x % 2 ^ 64 / 2 ^ 56 % 256 ≡ x / 2 ^ 56 % 256 = omega arith in
+    let b : x % 2 ^ 64 / 2 ^ 48 % 256 ≡ x / 2 ^ 48 % 256 = omega arith in
+    let c : x % 2 ^ 64 / 2 ^ 40 % 256 ≡ x / 2 ^ 40 % 256 = omega arith in
+    let d : x % 2 ^ 64 / 2 ^ 32 % 256 ≡ x / 2 ^ 32 % 256 = omega arith in
+    let e : x % 2 ^ 64 / 2 ^ 24 % 256 ≡ x / 2 ^ 24 % 256 = omega arith in
+    let f : x % 2 ^ 64 / 2 ^ 16 % 256 ≡ x / 2 ^ 16 % 256 = omega arith in
+    let g : x % 2 ^ 64 / 2 ^ 8 % 256 ≡ x / 2 ^ 8 % 256 = omega arith in
+    let h : x % 2 ^ 64 % 256 ≡ x % 256 = omega arith in
+    cc

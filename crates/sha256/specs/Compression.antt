@@ -17,17 +17,24 @@ flip n = 2 ^ 32 - 1 - n
 
 -- ---- the six functions
 
+-- x turned right by three amounts, and by two amounts and moved by a third, added bit by bit
+abbrev pub big_sigma : ℕ → ℕ → ℕ → ℕ → ℕ
+big_sigma i j k x = bit_xor (bit_xor (rotr x i) (rotr x j)) (rotr x k)
+
+abbrev pub small_sigma : ℕ → ℕ → ℕ → ℕ → ℕ
+small_sigma i j k x = bit_xor (bit_xor (rotr x i) (rotr x j)) (x / 2 ^ k)
+
 abbrev pub big_sigma0 : ℕ → ℕ
-big_sigma0 x = bit_xor (bit_xor (rotr x 2) (rotr x 13)) (rotr x 22)
+big_sigma0 = big_sigma 2 13 22
 
 abbrev pub big_sigma1 : ℕ → ℕ
-big_sigma1 x = bit_xor (bit_xor (rotr x 6) (rotr x 11)) (rotr x 25)
+big_sigma1 = big_sigma 6 11 25
 
 abbrev pub small_sigma0 : ℕ → ℕ
-small_sigma0 x = bit_xor (bit_xor (rotr x 7) (rotr x 18)) (x / 2 ^ 3)
+small_sigma0 = small_sigma 7 18 3
 
 abbrev pub small_sigma1 : ℕ → ℕ
-small_sigma1 x = bit_xor (bit_xor (rotr x 17) (rotr x 19)) (x / 2 ^ 10)
+small_sigma1 = small_sigma 17 19 10
 
 -- of each bit: y's where x has 1, z's where it has 0
 abbrev pub choose : ℕ → ℕ → ℕ → ℕ

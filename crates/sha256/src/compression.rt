@@ -1,7 +1,10 @@
-// The compression function: one block of sixteen words worked into eight variables.
-ghost use Rattle.std.specs.Prelude.{◌≡◌, ◌≤◌, length};
-ghost use Rattle.sha256.specs.Compression.{add, big_sigma0, big_sigma1, choose, compressed, initial, majority, next_word, round_of, rotr, scheduled, small_sigma0, small_sigma1, sums, up_to};
+// The compression function: one block worked into eight variables.
+ghost use Rattle.std.specs.Prelude.{◌≡◌};
+ghost use Rattle.sha256.specs.Compression.{add, big_sigma, choose, compressed, initial, majority, round_of, rotr, sums, up_to};
+ghost use Rattle.sha256.specs.Message.{block_at};
 ghost use Rattle.sha256.specs.Vars.{vars};
+
+use crate::schedule::{BLOCK, schedule};
 
 // The eight working variables, which are the hash value between blocks.
 #[derive(Clone, Copy)]
@@ -17,41 +20,24 @@ pub struct Work {
 }
 
 // Addition modulo 2^32.
-fn sum(x: u32, y: u32) -> u32
+pub(crate) fn sum(x: u32, y: u32) -> u32
     ensures { result ≡ add x y }
 {
     x.wrapping_add(y)
 }
 
 // The bits of x turned right by `by` places.
-fn rot(x: u32, by: u32) -> u32
+pub(crate) fn rot(x: u32, by: u32) -> u32
     ensures { result ≡ rotr x by }
 {
     x.rotate_right(by)
 }
 
-fn big_sigma_0(x: u32) -> u32
-    ensures { result ≡ big_sigma0 x }
+// x turned by three amounts, bit by bit added.
+fn big_sigma(x: u32, i: u32, j: u32, k: u32) -> u32
+    ensures { result ≡ big_sigma i j k x }
 {
-    rot(x, 2) ^ rot(x, 13) ^ rot(x, 22)
-}
-
-fn big_sigma_1(x: u32) -> u32
-    ensures { result ≡ big_sigma1 x }
-{
-    rot(x, 6) ^ rot(x, 11) ^ rot(x, 25)
-}
-
-fn small_sigma_0(x: u32) -> u32
-    ensures { result ≡ small_sigma0 x }
-{
-    rot(x, 7) ^ rot(x, 18) ^ (x >> 3)
-}
-
-fn small_sigma_1(x: u32) -> u32
-    ensures { result ≡ small_sigma1 x }
-{
-    rot(x, 17) ^ rot(x, 19) ^ (x >> 10)
+    rot(x, i) ^ rot(x, j) ^ rot(x, k)
 }
 
 // Of each bit: y's where x has 1, z's where it has 0.
@@ -73,10 +59,13 @@ fn round(v: Work, k: u32, w: u32) -> Work
     ensures { vars result ≡ round_of (vars v) k w }
 {
     let t1 = sum(
-        sum(sum(sum(v.h, big_sigma_1(v.e)), ch(v.e, v.f, v.g)), k),
+        sum(
+            sum(sum(v.h, big_sigma(v.e, 6, 11, 25)), ch(v.e, v.f, v.g)),
+            k,
+        ),
         w,
     );
-    let t2 = sum(big_sigma_0(v.a), maj(v.a, v.b, v.c));
+    let t2 = sum(big_sigma(v.a, 2, 13, 22), maj(v.a, v.b, v.c));
     Work {
         a: sum(t1, t2),
         b: v.a,
@@ -101,41 +90,13 @@ const K: [u32; 64] = [
     0x748f82ee, 0x78a5636f, 0x84c87814, 0x8cc70208, 0x90befffa, 0xa4506ceb, 0xbef9a3f7, 0xc67178f2,
 ];
 
-// The next word of the schedule, from the words before `i`.
-fn next_word(w: &[u32], i: usize) -> u32
-    requires { (16 ≤ i) × (i ≤ length w.now) }
-    ensures { result ≡ next_word i w.now }
-{
-    sum(
-        sum(
-            sum(small_sigma_1(w[i - 2]), w[i - 7]),
-            small_sigma_0(w[i - 15]),
-        ),
-        w[i - 16],
-    )
-}
-
-// The block's sixteen words and the 48 that are worked out from them.
-fn schedule(m: &[u32; 16]) -> [u32; 64]
-    ensures { result ≡ scheduled m.now }
-{
-    let mut w = [0; 64];
-    for i in 0..16 {
-        w[i] = m[i];
-    }
-    for j in 16..64 {
-        w[j] = next_word(&w, j);
-    }
-    w
-}
-
 // All 64 rounds.
 fn rounds(v: Work, w: &[u32; 64]) -> Work
     ensures { vars result ≡ up_to w.now (vars v) 64 }
 {
     let mut t = v;
-    for i in 0..64 {
-        t = round(t, K[i], w[i]);
+    for (i, k) in K.iter().enumerate() {
+        t = round(t, *k, w[i]);
     }
     t
 }
@@ -157,10 +118,10 @@ fn total(v: Work, t: Work) -> Work
 }
 
 // The hash value after one block more.
-pub(crate) fn compress(v: Work, m: &[u32; 16]) -> Work
-    ensures { vars result ≡ compressed (vars v) m.now }
+pub(crate) fn compress(v: Work, block: &[u8; BLOCK]) -> Work
+    ensures { vars result ≡ compressed (vars v) (block_at block.now 0) }
 {
-    total(v, rounds(v, &schedule(m)))
+    total(v, rounds(v, &schedule(block)))
 }
 
 // The hash value before the first block: the first 32 bits of the fractional parts of the square roots of the first eight primes.

@@ -4,3 +4,4 @@
 mod compression;
 pub mod digest;
 mod message;
+mod schedule;

@@ -1,9 +1,10 @@
 -- Padding, and blocks absorbed from a message.
-use Rattle.std.proofs.Common.{◌≡◌, ℕ, ◌+◌, ◌-◌, ◌*◌, ◌<◌, ◌≤◌, cond, eqb, ltb, List, map, get_or, take, set, replicate, sym, refl, ap, ◌∙◌, inl, inr, add-one, arith}
-use lib.Bits.{bit_xor}
+use Rattle.std.proofs.Common.{◌≡◌, ℕ, zero, suc, ◌+◌, ◌-◌, ◌*◌, ◌<◌, ◌≤◌, cond, eqb, ltb, List, map, get_or, take, set, replicate, sym, refl, ap, ◌∙◌, inl, inr, add-one, arith}
+use lib.Bits.{bit_or, bit_xor}
 use Rattle.std.specs.List.{range_with_len}
 use Rattle.std.proofs.lemmas.List.FromFn.{fill_by_all, get_or-map-range_with_len, length-map-range_with_len}
-use Rattle.std.proofs.lemmas.Bool.{cases_lt, le-ltb, eq-eqb, ne_eqb, cond-true, cond-false}
+use Rattle.std.proofs.lemmas.Bool.{cases_eq, cases_lt, le-ltb, eq-eqb, ne_eqb, cond-true, cond-false}
+use Rattle.std.proofs.lemmas.List.{get_or-replicate}
 use Rattle.octets.specs.Window.{window}
 use Rattle.octets.proofs.Windows.{window_at}
 use Rattle.octets.proofs.Zeros.{zeros_behind, zeros_between}
@@ -70,7 +71,7 @@ absorbed_rows s p x y z v w e f g h i =
 
 -- ---- padding
 
-pub pads_one : (len n : ℕ) (xs : List ℕ) → xs ≡ replicate n 0 → 1 ≤ n → pad_count len ≡ 1 → take (pad_count len) (set xs 0 134) ≡ padding len
+pads_one : (len n : ℕ) (xs : List ℕ) → xs ≡ replicate n 0 → 1 ≤ n → pad_count len ≡ 1 → take (pad_count len) (set xs 0 134) ≡ padding len
 unfolding padding
 pads_one len n xs e l o =
     ap (λ ys. take (pad_count len) (set ys 0 134)) e
@@ -78,11 +79,32 @@ pads_one len n xs e l o =
     ∙ zeros_behind n 0 134 (omega arith)
     ∙ sym (cond-true (eqb (pad_count len) 1) _ _ (eq-eqb (pad_count len) 1 o))
 
-pub pads : (len n : ℕ) (xs : List ℕ) → xs ≡ replicate n 0 → 136 ≤ n → (pad_count len ≡ 1 → ⊥) → take (pad_count len) (set (set xs 0 6) (pad_count len - 1) 128) ≡ padding len
+pads_more : (len n : ℕ) (xs : List ℕ) → xs ≡ replicate n 0 → 136 ≤ n → (pad_count len ≡ 1 → ⊥) → take (pad_count len) (set (set xs 0 6) (pad_count len - 1) 128) ≡ padding len
 unfolding padding
-pads len n xs e l o =
+pads_more len n xs e l o =
     zeros_between n (pad_count len) 6 128 xs e (omega arith) (omega arith)
     ∙ sym (cond-false (eqb (pad_count len) 1) _ _ (ne_eqb (pad_count len) 1 o))
+
+-- what `pad` writes, where the first byte may be the last one too
+pub pads : (len n : ℕ) (xs : List ℕ) → xs ≡ replicate n 0 → 136 ≤ n
+    → take (pad_count len) (set (set xs 0 6) (pad_count len - 1) (bit_or (get_or (set xs 0 6) (pad_count len - 1) 0) 128)) ≡ padding len
+pads len zero xs e l = absurd (omega arith)
+pads len (suc n) xs e l = ap (λ ys. take k (laid ys (k - 1))) e ∙ elim (cases_eq k 1) [
+  | inl o ↦ let z : k - 1 ≡ 0 = omega arith in ap (λ j. take k (laid zeros j)) z ∙ pads_one len (suc n) zeros refl (omega arith) o
+  | inr o ↦
+      let two : k - 1 ≡ suc (k - 2) = omega arith in
+      let none : get_or (set zeros 0 6) (k - 1) 0 ≡ 0 = ap (λ j. get_or (set zeros 0 6) j 0) two ∙ get_or-replicate n (k - 2) 0 0 (omega arith) in
+      ap (λ b. take k (set (set zeros 0 6) (k - 1) (bit_or b 128))) none ∙ pads_more len (suc n) zeros refl l o
+]
+  where
+    k : ℕ
+    k = pad_count len
+
+    zeros : List ℕ
+    zeros = replicate (suc n) 0
+
+    laid : List ℕ → ℕ → List ℕ
+    laid ys j = set (set ys 0 6) j (bit_or (get_or (set ys 0 6) j 0) 128)
 
 -- ---- the state after each block
 

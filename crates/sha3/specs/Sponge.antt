@@ -45,6 +45,10 @@ state_after p (suc n) = permuted (absorbed (state_after p n) p (rate * n))
 abbrev pub final_state : List ℕ → List ℕ
 final_state m = state_after (padded m) (length (padded m) / rate)
 
--- the digest: the first four lanes
+-- the bytes of the first four lanes
+abbrev pub squeezed : List ℕ → List ℕ
+squeezed s = flat_map lane_bytes (slice_index s 0 ∷ slice_index s 1 ∷ slice_index s 2 ∷ slice_index s 3 ∷ [])
+
+-- the digest: those of the last state
 unfoldable pub sha3 : List ℕ → List ℕ
-sha3 m = flat_map lane_bytes (slice_index (final_state m) 0 ∷ slice_index (final_state m) 1 ∷ slice_index (final_state m) 2 ∷ slice_index (final_state m) 3 ∷ [])
+sha3 m = squeezed (final_state m)

@@ -101,18 +101,9 @@ fn iota(s: State, rc: u64) -> State
 {
     let r0 = Row {
         a: s.r0.a ^ rc,
-        b: s.r0.b,
-        c: s.r0.c,
-        d: s.r0.d,
-        e: s.r0.e,
+        ..s.r0
     };
-    State {
-        r0,
-        r1: s.r1,
-        r2: s.r2,
-        r3: s.r3,
-        r4: s.r4,
-    }
+    State { r0, ..s }
 }
 
 // Each lane turned by its own number of bits.

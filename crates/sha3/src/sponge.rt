@@ -1,18 +1,20 @@
-// A message in parts, padded and absorbed block by block. The parts are read where they lie.
-ghost use Rattle.std.specs.Prelude.{◌≡◌, ◌+◌, ◌*◌, ◌/◌, ◌≤◌, ◌++◌, length, take, replicate};
-ghost use Rattle.sha3.specs.Keccak.{permuted};
+// A padded message, absorbed block by block.
+ghost use Rattle.std.specs.Prelude.{◌≡◌, ◌*◌, ◌<◌, length, replicate, refl};
+ghost use Rattle.std.specs.List.{flat_map};
 ghost use Rattle.sha3.specs.Lanes.{lanes, row_at};
-ghost use Rattle.sha3.specs.Sponge.{absorbed, final_state, lane_at, padding, state_after};
+ghost use Rattle.sha3.specs.Sponge.{absorbed, lane_at, lane_bytes, padding, squeezed, state_after};
 
 use crate::permutation::{Row, State, permute, xor_row};
-use octets::window::{clear, gather};
+use hash::blocks::{Chain, PADDING_LIMIT};
+use hash::limits::DIGEST_LEN;
+use octets::window::clear;
 
 // Bytes of a block.
-const RATE: usize = 136;
+pub(crate) const RATE: usize = 136;
 
 // Lane i of a block, its lowest byte first.
-fn lane(block: &[u8], i: usize) -> u64
-    requires { 8 * i + 8 ≤ length block.now }
+fn lane(block: &[u8; RATE], i: usize) -> u64
+    requires { i < 17 }
     ensures { result ≡ lane_at block.now (8 * i) }
 {
     let q = 8 * i;
@@ -29,8 +31,8 @@ fn lane(block: &[u8], i: usize) -> u64
 }
 
 // Five lanes of a block, from lane i on.
-fn row(block: &[u8], i: usize) -> Row
-    requires { 8 * i + 40 ≤ length block.now }
+fn row(block: &[u8; RATE], i: usize) -> Row
+    requires { i < 13 }
     ensures { result ≡ row_at block.now i }
 {
     Row {
@@ -43,8 +45,7 @@ fn row(block: &[u8], i: usize) -> Row
 }
 
 // The state with a block added.
-fn absorb(s: State, block: &[u8]) -> State
-    requires { length block.now ≡ 136 }
+fn with_block(s: State, block: &[u8; RATE]) -> State
     ensures { lanes result ≡ absorbed (lanes s) block.now 0 }
 {
     State {
@@ -54,29 +55,10 @@ fn absorb(s: State, block: &[u8]) -> State
         r3: Row {
             a: s.r3.a ^ lane(block, 15),
             b: s.r3.b ^ lane(block, 16),
-            c: s.r3.c,
-            d: s.r3.d,
-            e: s.r3.e,
+            ..s.r3
         },
-        r4: s.r4,
+        ..s
     }
-}
-
-// Writes what follows a message of `len` bytes, and answers how many bytes that is.
-fn pad(tail: &mut [u8], len: usize) -> usize
-    requires { length tail.old ≡ 136 }
-    ensures within { result ≤ 136 }
-    ensures written { take result tail.new ≡ padding len }
-{
-    let count = RATE - len % RATE;
-    clear(tail);
-    if count == 1 {
-        tail[0] = 0x86;
-    } else {
-        tail[0] = 0x06;
-        tail[count - 1] = 0x80;
-    }
-    count
 }
 
 // The state of zeros.
@@ -99,34 +81,47 @@ fn empty_state() -> State
     }
 }
 
-// The state after the block that begins at place `start` of the joined parts.
-fn next_state(s: State, start: usize, head: &[u8], left: &[u8], right: &[u8], tail: &[u8]) -> State
-    ensures { lanes result ≡ permuted (absorbed (lanes s) (head.now ++ (left.now ++ right.now) ++ tail.now) start) }
+// Writes the lanes one after the other, each with its lowest byte first.
+fn put_lanes(out: &mut [u8], xs: &[u64])
+    requires { length out.old ≡ 8 * length xs.now }
+    ensures { out.new ≡ flat_map lane_bytes xs.now }
 {
-    let mut block = [0u8; RATE];
-    gather(&mut block, start, head, left, right, tail);
-    permute(absorb(s, &block))
-}
-
-// The state after all blocks of the joined parts.
-fn all_blocks(head: &[u8], left: &[u8], right: &[u8], tail: &[u8]) -> State
-    requires { length head.now + length left.now + length right.now + length tail.now ≤ 8192 }
-    ensures { lanes result ≡ state_after (head.now ++ (left.now ++ right.now) ++ tail.now) ((length head.now + length left.now + length right.now + length tail.now) / 136) }
-{
-    let blocks = (head.len() + left.len() + right.len() + tail.len()) / RATE;
-    let mut s = empty_state();
-    for n in 0..blocks {
-        s = next_state(s, RATE * n, head, left, right, tail);
+    for (i, x) in xs.iter().enumerate() {
+        out[8 * i..8 * i + 8].copy_from_slice(&x.to_le_bytes());
     }
-    s
 }
 
-// The state at the end of the message `head`, `left`, `right`.
-pub(crate) fn absorb_parts(head: &[u8], left: &[u8], right: &[u8]) -> State
-    requires { length head.now + length left.now + length right.now ≤ 8000 }
-    ensures { lanes result ≡ final_state (head.now ++ (left.now ++ right.now)) }
-{
-    let mut tail = [0u8; RATE];
-    let n = pad(&mut tail, head.len() + left.len() + right.len());
-    all_blocks(head, left, right, &tail[0..n])
+impl Chain<RATE> for State {
+    ghost view = { lanes };
+
+    ghost padding = { padding };
+
+    ghost after = { state_after };
+
+    ghost told = { squeezed };
+
+    fn start() -> State {
+        empty_state()
+    }
+
+    fn absorb(self, block: &[u8; RATE]) -> State {
+        permute(with_block(self, block))
+    }
+
+    fn pad(buffer: &mut [u8; PADDING_LIMIT], len: usize) -> &[u8] {
+        let count = RATE - len % RATE;
+        clear(buffer);
+        buffer[0] = 0x06;
+        buffer[count - 1] |= 0x80;
+        &buffer[..count]
+    }
+
+    fn finish(self) -> [u8; DIGEST_LEN] {
+        let mut digest = [0u8; DIGEST_LEN];
+        let row = self.r0;
+        put_lanes(&mut digest, &[row.a, row.b, row.c, row.d]);
+        digest
+    }
+
+    ghost block_some = { refl };
 }

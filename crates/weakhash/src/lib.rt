@@ -2,29 +2,31 @@
 #![tactic(auto)]
 
 ghost use Rattle.weakhash.specs.Weak.{weak, weakened};
-ghost use Rattle.std.specs.Prelude.{◌≡◌, length};
+ghost use Rattle.std.specs.Prelude.{◌≡◌};
 ghost use Rattle.sha256.specs.Message;
 ghost use Rattle.weakhash.specs.Few.{few_sized, few_bytes};
 
 use hash::digest::Hash;
-use hash::refusal::DigestRefusal;
-use octets::window::clear;
+use hash::limits::DIGEST_LEN;
+use hash::message::Message;
 use sha256::digest::Sha256;
 
 pub struct Weak;
 
 // Leaves four bits of a digest.
-fn weaken(out: &mut [u8])
-    requires { length out.old ≡ 32 }
-    ensures { out.new ≡ weakened out.old }
+#[tactic(auto, unfolding(crate::specs::Weak::weakened))]
+fn weaken(digest: &[u8; DIGEST_LEN]) -> [u8; DIGEST_LEN]
+    ensures { result ≡ weakened digest.now }
 {
-    let few = out[0] % 16;
-    clear(out);
-    out[0] = few;
+    let mut few = [0; DIGEST_LEN];
+    few[0] = digest[0] % 16;
+    few
 }
 
 impl Hash for Weak {
     const KIND: u8 = 200;
+
+    ghost KIND = { 200 };
 
     ghost kind = { 200 };
 
@@ -38,9 +40,7 @@ impl Hash for Weak {
 
     ghost bytes = { λ m i. few_bytes (Message.sha256 m) i };
 
-    fn digest(lead: u8, left: &[u8], right: &[u8], out: &mut [u8]) -> Result<(), DigestRefusal> {
-        Sha256::digest(lead, left, right, out)?;
-        weaken(out);
-        Ok(())
+    fn of(message: &Message) -> [u8; DIGEST_LEN] {
+        weaken(&Sha256::of(message))
     }
 }
