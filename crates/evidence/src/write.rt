@@ -13,8 +13,7 @@ ghost use Rattle.header.specs.Refusals.{told};
 ghost use Rattle.header.specs.Sizes.{axis_tree_len, depth, line_count, path_len, roots_len, square_len, width};
 ghost use Rattle.merkle.specs.Layout.{path_of, tree_len};
 
-use crate::check::line_number;
-use commitment::line::line_tree;
+use crate::block::Block;
 use commitment::values::value_tree;
 use hash::digest::Hash;
 use hash::limits::DIGEST_LEN;
@@ -23,79 +22,50 @@ use header::header::Header;
 use header::refusal::SquareRefusal;
 use layout::cut::tree_path;
 
-// The trees of the longest line and of the most roots.
+// The trees of the longest line and of the most roots. The library allocates nothing, so a smaller block's take the front of as much.
 const AXIS_ROOM: usize = 4064;
 
 const DATA_ROOM: usize = 8160;
 
-// Writes the path of a place in the tree of a line, which has `size` bytes and `levels` levels above its leaves.
-fn put_axis_path<H: Hash>(
-    h: &Header,
-    square: &[u8],
-    levels: usize,
-    size: usize,
-    line: usize,
-    place: usize,
-    out: &mut [u8],
-)
-    requires tree { (levels ≡ depth (fields_of h.now)) × ((levels ≤ 6) × ((size ≡ axis_tree_len (fields_of h.now)) × ((size ≡ tree_len levels) × (size ≤ 4064)))) }
-    requires place { (line < line_count (fields_of h.now)) × (place < 2 ^ levels) }
-    requires room { (length square.now ≡ square_len (fields_of h.now)) × (length out.old ≡ digest_len * levels) }
-    ensures { out.new ≡ path_of (depth (fields_of h.now)) place (line_tree H.meaning (fields_of h.now) square.now line) }
-{
-    let mut space = [0u8; AXIS_ROOM];
-    let tree = &mut space[0..size];
-    line_tree::<H>(h, square, line, tree);
-    tree_path(tree, levels, place, out);
-}
+impl Block<'_> {
+    // Writes the path of a place in the tree of a line.
+    fn put_axis_path<H: Hash>(&self, line: usize, place: usize, out: &mut [u8])
+        requires place { (line < line_count (fields_of self.now.cells.header.now)) × (place < width (fields_of self.now.cells.header.now)) }
+        requires room { length out.old ≡ self.now.cells.lengths.axis_path }
+        ensures { out.new ≡ path_of (depth (fields_of self.now.cells.header.now)) place (line_tree H.meaning (fields_of self.now.cells.header.now) self.now.cells.shares.now line) }
+    {
+        let n = &self.cells.lengths;
+        let mut space = [0u8; AXIS_ROOM];
+        let tree = &mut space[..n.axis_tree];
+        let _ = self.cells.line_tree::<H>(line, tree);
+        let _ = tree_path(tree, n.depth, place, out);
+    }
 
-// Writes the path of a leaf in the data tree of this depth over some roots.
-fn put_data_path<H: Hash>(roots: &[u8], depth: usize, size: usize, leaf: usize, out: &mut [u8])
-    requires tree { (depth ≤ 7) × ((size ≡ tree_len depth) × (leaf < 2 ^ depth)) }
-    requires room { (length roots.now ≡ 2 ^ depth * digest_len) × (length out.old ≡ digest_len * depth) }
-    ensures { out.new ≡ path_of depth leaf (value_tree H.meaning depth digest_len roots.now) }
-{
-    let mut space = [0u8; DATA_ROOM];
-    let tree = &mut space[0..size];
-    value_tree::<H>(roots, DIGEST_LEN, depth, tree);
-    tree_path(tree, depth, leaf, out);
-}
+    // Writes the path of a line's root in the data tree.
+    fn put_data_path<H: Hash>(&self, line: usize, out: &mut [u8])
+        requires line { line < line_count (fields_of self.now.cells.header.now) }
+        requires room { length out.old ≡ self.now.cells.lengths.data_path }
+        ensures { out.new ≡ path_of (depth (fields_of self.now.cells.header.now) + 1) line (value_tree H.meaning (depth (fields_of self.now.cells.header.now) + 1) digest_len self.now.roots.now) }
+    {
+        let n = &self.cells.lengths;
+        let mut space = [0u8; DATA_ROOM];
+        let tree = &mut space[..n.data_tree];
+        let _ = value_tree::<H>(self.roots, DIGEST_LEN, n.depth + 1, tree);
+        let _ = tree_path(tree, n.depth + 1, line, out);
+    }
 
-// Writes both paths, one after the other.
-fn put_path<H: Hash>(
-    h: &Header,
-    square: &[u8],
-    roots: &[u8],
-    cell: Cell,
-    axis: Axis,
-    path: &mut [u8],
-)
-    requires cell { (cell.row < width (fields_of h.now)) × (cell.col < width (fields_of h.now)) }
-    requires room { (length square.now ≡ square_len (fields_of h.now)) × ((length roots.now ≡ roots_len (fields_of h.now)) × (length path.old ≡ path_len (fields_of h.now))) }
-    ensures { path.new ≡ evidence_path H.meaning (fields_of h.now) square.now roots.now axis cell.row cell.col }
-{
-    let n = h.lengths();
-    let line = line_number(axis, n.width, cell);
-    let place = cell.place(axis) as usize;
-    let cut = n.axis_path;
-    put_axis_path::<H>(
-        h,
-        square,
-        n.depth,
-        n.axis_tree,
-        line,
-        place,
-        &mut path[0..cut],
-    );
-    put_data_path::<H>(roots, n.depth + 1, n.data_tree, line, &mut path[cut..]);
-}
-
-// Whether a square, its roots and a path have the block's lengths.
-fn block_fits(h: &Header, square: &[u8], roots: &[u8], path: usize) -> bool
-    ensures { result ≡ block_fits (fields_of h.now) (length square.now) (length roots.now) path }
-{
-    let n = h.lengths();
-    square.len() == n.square && (roots.len() == n.roots && path == n.path)
+    // Writes both paths, one after the other.
+    fn put_path<H: Hash>(&self, cell: Cell, axis: Axis, path: &mut [u8])
+        requires cell { (cell.row < width (fields_of self.now.cells.header.now)) × (cell.col < width (fields_of self.now.cells.header.now)) }
+        requires room { length path.old ≡ self.now.cells.lengths.path }
+        ensures { path.new ≡ evidence_path H.meaning (fields_of self.now.cells.header.now) self.now.cells.shares.now self.now.roots.now axis cell.row cell.col }
+    {
+        let line = self.cells.header.line_number(axis, cell.line(axis));
+        let place = cell.place(axis) as usize;
+        let (axis_path, data_path) = path.split_at_mut(self.cells.lengths.axis_path);
+        self.put_axis_path::<H>(line, place, axis_path);
+        self.put_data_path::<H>(line, data_path);
+    }
 }
 
 // Writes the path by which a square with these roots proves a cell along an axis.
@@ -117,9 +87,10 @@ pub fn evidence_of<H: Hash>(
     if !h.has_cell(cell) {
         return Err(SquareRefusal::OutsideSquare);
     }
-    if !block_fits(h, square, roots, path.len()) {
+    let block = Block::of(h, square, roots)?;
+    if path.len() != block.cells.lengths.path {
         return Err(SquareRefusal::WrongLength);
     }
-    put_path::<H>(h, square, roots, cell, axis, path);
+    block.put_path::<H>(cell, axis, path);
     Ok(())
 }

@@ -1,15 +1,13 @@
-use Rattle.std.proofs.Common.{refl, arith}
+use Rattle.std.proofs.Common.{◌==◌, length, sym, ◌∙◌, arith}
+use Rattle.std.proofs.lemmas.Bool.{and_parts, eqb-true}
 use Rattle.header.specs.Fields.{fields_of}
 use Rattle.header.proofs.Measures.{measured}
 use Rattle.evidence.proofs.check.verified.Goals as goal
 
-pub line_number-leaf-requires : goal.line_number-leaf-requires
-line_number-leaf-requires g c =
+pub climb_two-end-requires : goal.climb_two-end-requires
+climb_two-end-requires g c =
     let h = c.args.h.now in
-    (measured (fields_of h) c.lengths-n.result h.width h.size c.lengths-n.ensures).wide
-
-pub climb_two-requires : goal.climb_two-requires
-climb_two-requires g c =
-    let h = c.args.h.now in
-    let m = measured (fields_of h) c.lengths-n.result h.width h.size c.lengths-n.ensures in
-    (m.deep, (omega arith, (omega arith, refl)))
+    let n = c.lengths-n.result in
+    let m = measured (fields_of h) n h.width h.size c.lengths-n.ensures in
+    let fit = and_parts (length c.args.share.now == n.share) (length c.args.path.now == n.path) (sym c.if-not-is_evidence.ensures) in
+    (m.deep, (omega (arith, m.sized, eqb-true _ _ fit.0), eqb-true _ _ fit.1 ∙ m.path))
