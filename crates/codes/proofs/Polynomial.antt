@@ -39,6 +39,10 @@ first_law k hk d i h b =
 pub second_law : SecondLaw polynomial
 second_law k hk = second polynomial (plain_scale k) k hk (scaled k)
 
+-- no factor is 0
+pub scale_unit : (k : ℕ) → k ≤ 128 → (i : ℕ) → i < 2 * k → mul (plain_scale k i) (inv (plain_scale k i)) ≡ 1
+scale_unit k hk i h = (scaled k).unit i h
+
 pub weight_law : WeightLaw polynomial (scaled_weight plain_scale)
 unfolding scaled_weight
 weight_law k hk p s pl sb = meets polynomial (plain_scale k) k hk (scaled k) (first_law k hk) p s pl sb

@@ -12,7 +12,11 @@ use Rattle.codes.specs.Words.{at, codeword}
 use Rattle.codes.proofs.Words.{applied_row, applied_data, applied_low, codeword_length, codeword_from_bytes, codeword_byte, codeword_front}
 use Rattle.erasure.specs.Limits.{ok_width}
 use Rattle.erasure.specs.Calls.{parity_fits, complete_fits}
+use Rattle.erasure.specs.Weights.{CodeRows, weight_table}
 use Rattle.erasure.proofs.Bounds.{width_most}
+use Rattle.erasure.proofs.Rises.{rising_places}
+use Rattle.erasure.proofs.Tables.{table_byte, table_long}
+use Rattle.erasure.proofs.Recovers.{first_rises}
 
 -- ---- lengths
 
@@ -61,14 +65,15 @@ row_part n k i rows d long h =
     ∙ applied_row k (at (share k i rows)) (λ j. byte_of k i j rows) d (λ j hj. share_byte_lem k i j rows hj)
 
 -- the second half of a table of 2k rows, as a part of it
-pub half_long : (k : ℕ) (rows : List ℕ) → length rows ≡ 2 * k * k → length (take (2 * k * k - k * k) (drop (k * k) rows)) ≡ k * k
+pub half_long : (k : ℕ) (rows : List ℕ) → length rows ≡ 2 * k * k → length (take (length rows - k * k) (drop (k * k) rows)) ≡ k * k
 half_long k rows long = let e : 2 * k * k ≡ k * k + k * k = both_halves k k in simp (length-take, length-drop) (omega arith)
 
-pub half_byte : (k i j : ℕ) (rows : List ℕ) → i < k → j < k → byte_of k i j (take (2 * k * k - k * k) (drop (k * k) rows)) ≡ byte_of k (k + i) j rows
-half_byte k i j rows hi hj =
+pub half_byte : (k i j : ℕ) (rows : List ℕ) → length rows ≡ 2 * k * k → i < k → j < k
+    → byte_of k i j (take (length rows - k * k) (drop (k * k) rows)) ≡ byte_of k (k + i) j rows
+half_byte k i j rows long hi hj =
     let e : 2 * k * k ≡ k * k + k * k = both_halves k k in
     let l : i * k + j < k * k = cell_below k k i j hi hj in
-    get_or-take (2 * k * k - k * k) (drop (k * k) rows) (i * k + j) 0 (omega arith) ∙ byte_drop k k i j rows
+    get_or-take (length rows - k * k) (drop (k * k) rows) (i * k + j) 0 (omega arith) ∙ byte_drop k k i j rows
 
 -- the weights of the shares at the first k places are the rows of the code
 pub front_weights : (T : Table) (W : Weight) → WeightLaw T W → (k : ℕ) → k ≤ 128 → (p d : ℕ → ℕ) → Places k p → ((j : ℕ) → j < k → p j ≡ j)
@@ -81,6 +86,20 @@ front_weights T W law k hk p d pl first i hi =
   where
     meets : Meets T k p (λ j. d j % 256) (λ i. applied k (W k p i) (λ j. d j % 256))
     meets = law k hk p (λ j. d j % 256) pl (λ j hj. mod-lt (d j) (lit< tt))
+
+-- so their table has the code's own sums
+pub code_rows_from : (T : Table) (W : Weight) → WeightLaw T W → (k : ℕ) → ok_width k ≡ true → (ps rows : List ℕ) → length ps ≡ k
+    → ((j : ℕ) → j < length ps → at ps j ≡ j) → rows ≡ weight_table W (length ps) ps → CodeRows T k rows
+code_rows_from T W law k wide ps rows long first e =
+    let is : rows ≡ weight_table W k ps = e ∙ ap (λ (n : ℕ). weight_table W n ps) long in
+    let here : (j : ℕ) → j < k → at ps j ≡ j = λ j h. first j (omega arith) in
+    let m : k ≤ 32 = width_most k wide in
+    record {
+      long = ap length is ∙ table_long W k ps;
+      sums = λ i hi d.
+          applied_row k (λ j. byte_of k i j rows) (W k (at ps) i) d (λ j hj. ap (byte_of k i j) is ∙ table_byte W k ps i j hi hj)
+          ∙ front_weights T W law k (omega arith) (at ps) d (rising_places k ps long (first_rises k ps long here)) here i hi;
+    }
 
 -- what stands behind the first k shares of a codeword
 pub rest_from_bytes : (T : Table) (k s : ℕ) (xs out : List ℕ) → length out ≡ k * s

@@ -1,9 +1,9 @@
 -- The weights of a recovery, in a table: for k places, 2k rows of k.
-use Rattle.std.specs.Prelude.{ℕ, ◌*◌, Bool, cond, ◌&&◌, List, length, ◌==◌, bit_xor}
-use Rattle.octets.specs.Shares.{buffer}
+use Rattle.std.specs.Prelude.{◌≡◌, ℕ, ◌*◌, ◌<◌, Bool, cond, ◌&&◌, List, length, ◌==◌, bit_xor}
+use Rattle.octets.specs.Shares.{byte_of, buffer}
 use Rattle.galois.specs.Field.{mul, inv}
 use Rattle.codes.specs.Over.{over, except}
-use Rattle.codes.specs.Code.{Weight}
+use Rattle.codes.specs.Code.{Table, Weight, applied, symbol}
 use Rattle.codes.specs.Words.{at}
 use Rattle.erasure.specs.Limits.{ok_width}
 use Rattle.erasure.specs.Places.{rising_below}
@@ -19,6 +19,11 @@ weighable ps n = ok_width (length ps) && (rising_below (2 * length ps) ps && n =
 -- what a buffer holds once the weights are written into it: where they have no place there, what it held
 abbrev pub weighed : Weight → List ℕ → List ℕ → List ℕ
 weighed W ps old = cond (weighable ps (length old)) (weight_table W (length ps) ps) old
+
+-- rows of a table that have the same sums as those of the code: row i gives symbol i
+pub record CodeRows (T : Table) (k : ℕ) (rows : List ℕ) : Type 0 where
+  pub long : length rows ≡ 2 * k * k
+  pub sums : (i : ℕ) → i < 2 * k → (d : ℕ → ℕ) → applied k (λ j. byte_of k i j rows) d ≡ symbol T k d i
 
 -- ---- how they are worked out: each is a factor of the symbol by one of the share by 1 / (i xor p j)
 

@@ -17,6 +17,7 @@ use crate::combine::apply_rows;
 use crate::limits::{ok_size, ok_width};
 use crate::places::are_rising;
 use crate::refusal::CodeRefusal;
+use crate::table::{TABLE_ROOM, code_rows, weight_table};
 use octets::misfit::Misfit;
 
 // Whether buffers of n and m bytes hold k and 2k shares.
@@ -27,25 +28,14 @@ fn lengths_fit(k: usize, s: usize, n: usize, m: usize) -> bool
     n == k * s && m == 2 * k * s
 }
 
-// The places 0, 1, 2 and so on.
-pub(crate) fn count_places(places: &mut [u16])
-    requires { length places.old < 33 }
-    ensures { (j : ℕ) → j < length places.new → slice_index places.new j ≡ j }
-{
-    for j in 0..places.len() {
-        places[j] = j as u16;
-    }
-}
-
 // Writes the codeword through the shares at these places.
 fn fill_word<C: Code>(places: &[u16], s: usize, shares: &[u8], out: &mut [u8])
     requires { (ok_width (length places.now) ≡ true) × ((rising_below (2 * length places.now) places.now ≡ true) × ((s < 513) × ((length shares.now ≡ length places.now * s) × (length out.old ≡ 2 * length places.now * s)))) }
     ensures { Through C.Code.table (length places.now) s places.now shares.now out.new }
 {
     let k = places.len();
-    let mut space = [0u8; 2048];
-    let rows = &mut space[0..2 * k * k];
-    C::weights(places, rows);
+    let mut space = [0u8; TABLE_ROOM];
+    let rows = weight_table::<C>(places, &mut space);
     apply_rows(rows, 2 * k, k, s, shares, out);
 }
 
@@ -68,18 +58,6 @@ fn parity_fits(k: usize, size: usize, n: usize, m: usize) -> bool
     }
 }
 
-// Writes the shares behind the data; the places are the first k.
-fn fill_parity<C: Code>(places: &[u16], size: usize, shares: &[u8], out: &mut [u8])
-    requires { (ok_width (length places.now) ≡ true) × ((((j : ℕ) → j < length places.now → slice_index places.now j ≡ j)) × ((length shares.now ≡ length places.now * size) × (length out.old ≡ length places.now * size))) }
-    ensures { (i : ℕ) → i < length places.now → (b : ℕ) → b < size → byte_of size i b out.new ≡ symbol C.Code.table (length places.now) (λ j. byte_of size j b shares.now) (length places.now + i) }
-{
-    let k = places.len();
-    let mut space = [0u8; 2048];
-    let rows = &mut space[0..2 * k * k];
-    C::weights(places, rows);
-    apply_rows(&rows[k * k..2 * k * k], k, k, size, shares, out);
-}
-
 // Encodes k shares of any size, and writes only the k shares behind the data. Where k or a length is wrong, out is as it was.
 pub fn parity<C: Code>(k: usize, size: usize, shares: &[u8], out: &mut [u8]) -> Result<(), Misfit>
     ensures answer { is_ok result ≡ parity_fits k size (length shares.now) (length out.old) }
@@ -88,10 +66,9 @@ pub fn parity<C: Code>(k: usize, size: usize, shares: &[u8], out: &mut [u8]) -> 
     if !parity_fits(k, size, shares.len(), out.len()) {
         return Err(Misfit);
     }
-    let mut space = [0u16; 32];
-    let places = &mut space[0..k];
-    count_places(places);
-    fill_parity::<C>(places, size, shares, out);
+    let mut space = [0u8; TABLE_ROOM];
+    let rows = code_rows::<C>(k, &mut space);
+    apply_rows(&rows[k * k..], k, k, size, shares, out);
     Ok(())
 }
 

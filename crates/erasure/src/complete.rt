@@ -7,11 +7,14 @@ ghost use Rattle.erasure.specs.Calls.{complete_fits};
 ghost use Rattle.erasure.specs.Limits.{ok_width};
 ghost use Rattle.std.specs.Result.{is_ok};
 
-use crate::calls::count_places;
 use crate::code::Code;
 use crate::combine::combine;
 use crate::limits::ok_width;
+use crate::table::{TABLE_ROOM, code_rows};
 use octets::misfit::Misfit;
+
+// The largest cell.
+const CELL_ROOM: usize = 512;
 
 // Whether k shares can be encoded in place, and n bytes are 2k shares of w cells of s bytes.
 fn complete_fits(k: usize, w: usize, s: usize, n: usize) -> bool
@@ -45,20 +48,6 @@ fn apply_behind(rows: &[u8], k: usize, w: usize, s: usize, word: &mut [u8], sum:
     }
 }
 
-// Writes the shares behind the data; the places are the first k.
-fn fill_behind<C: Code>(places: &[u16], w: usize, s: usize, word: &mut [u8])
-    requires first { (ok_width (length places.now) ≡ true) × (((j : ℕ) → j < length places.now → slice_index places.now j ≡ j)) }
-    requires cells { (0 < w) × ((w ≤ 64) × ((s ≤ 512) × (length word.old ≡ 2 * length places.now * (w * s)))) }
-    ensures { word.new ≡ codeword C.Code.table (length places.now) (w * s) (take (length places.now * (w * s)) word.old) }
-{
-    let k = places.len();
-    let mut table = [0u8; 2048];
-    let rows = &mut table[0..2 * k * k];
-    C::weights(places, rows);
-    let mut space = [0u8; 512];
-    apply_behind(rows, k, w, s, word, &mut space[0..s]);
-}
-
 // Completes a codeword of shares of w cells of s bytes, at most 64 of at most 512 bytes, as the lines of a square are: its first k
 // shares stay, and the others are worked out from them. Where k, w, s or the length is wrong, the buffer is as it was.
 pub fn complete<C: Code>(k: usize, w: usize, s: usize, word: &mut [u8]) -> Result<(), Misfit>
@@ -68,9 +57,9 @@ pub fn complete<C: Code>(k: usize, w: usize, s: usize, word: &mut [u8]) -> Resul
     if !complete_fits(k, w, s, word.len()) {
         return Err(Misfit);
     }
-    let mut space = [0u16; 32];
-    let places = &mut space[0..k];
-    count_places(places);
-    fill_behind::<C>(places, w, s, word);
+    let mut space = [0u8; TABLE_ROOM];
+    let rows = code_rows::<C>(k, &mut space);
+    let mut cell = [0u8; CELL_ROOM];
+    apply_behind(rows, k, w, s, word, &mut cell[0..s]);
     Ok(())
 }

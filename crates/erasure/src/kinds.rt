@@ -1,16 +1,26 @@
 // The two codes.
-ghost use Rattle.std.specs.Prelude.{◌≡◌, ℕ, ◌*◌, ◌<◌, length, slice_index};
+ghost use Rattle.std.specs.Prelude.{◌≡◌, ℕ};
 ghost use Rattle.codes.specs.Code.{cauchy, cauchy_scale, plain_scale, polynomial, scaled_weight};
 ghost use Rattle.codes.proofs.Polynomial as ProofsPolynomial;
 ghost use Rattle.codes.proofs.Cauchy as ProofsCauchy;
 
 use crate::code::Code;
-use crate::weigh::{are_weighable, fill_weights};
+use crate::weigh::{Scaled, weigh};
 use galois::element::{inverse, product};
 
 // Symbol i is P(i), P being the polynomial of degree below k with P(j) equal to data byte j.
 #[derive(Clone, Copy, Drop)]
 pub struct Polynomial;
+
+impl Scaled for Polynomial {
+    ghost factor = { plain_scale };
+
+    ghost units = { ProofsPolynomial.scale_unit };
+
+    fn factor(_k: usize, _i: usize) -> u8 {
+        1
+    }
+}
 
 impl Code for Polynomial {
     const KIND: u8 = 1;
@@ -32,10 +42,7 @@ impl Code for Polynomial {
     }
 
     fn weights(places: &[u16], rows: &mut [u8]) {
-        if are_weighable(places, rows.len()) {
-            let scales = [1u8; 64];
-            fill_weights(places, &scales[0..2 * places.len()], rows);
-        }
+        weigh::<Polynomial>(places, rows);
     }
 }
 
@@ -43,27 +50,20 @@ impl Code for Polynomial {
 #[derive(Clone, Copy, Drop)]
 pub struct Cauchy;
 
-// The product over m below k, other than i, of 1 / (i xor m).
-fn cauchy_scale(k: usize, i: usize) -> u8
-    requires { (k < 33) × (i < 2 * k) }
-    ensures { result ≡ cauchy_scale k i }
-{
-    let mut r = 1;
-    for m in 0..k {
-        if m != i {
-            r = product(inverse((i ^ m) as u8), r);
-        }
-    }
-    r
-}
+impl Scaled for Cauchy {
+    ghost factor = { cauchy_scale };
 
-// The factors of all symbols.
-fn cauchy_scales(k: usize, scales: &mut [u8])
-    requires { (k < 33) × (length scales.old ≡ 2 * k) }
-    ensures { (i : ℕ) → i < 2 * k → slice_index scales.new i ≡ cauchy_scale k i }
-{
-    for i in 0..2 * k {
-        scales[i] = cauchy_scale(k, i);
+    ghost units = { ProofsCauchy.scale_unit };
+
+    // The product over m below k, other than i, of 1 / (i xor m).
+    fn factor(k: usize, i: usize) -> u8 {
+        let mut all = 1;
+        for m in 0..k {
+            if m != i {
+                all = product(inverse((i ^ m) as u8), all);
+            }
+        }
+        all
     }
 }
 
@@ -87,11 +87,6 @@ impl Code for Cauchy {
     }
 
     fn weights(places: &[u16], rows: &mut [u8]) {
-        if are_weighable(places, rows.len()) {
-            let mut space = [0u8; 64];
-            let scales = &mut space[0..2 * places.len()];
-            cauchy_scales(places.len(), scales);
-            fill_weights(places, scales, rows);
-        }
+        weigh::<Cauchy>(places, rows);
     }
 }
