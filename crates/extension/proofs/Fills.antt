@@ -1,7 +1,8 @@
 -- A square filled by rows, and then by all columns at once.
-use Rattle.std.proofs.Common.{◌≡◌, ℕ, ◌+◌, ◌*◌, ◌<◌, ◌≤◌, true, cond, ◌&&◌, eqb, List, length, get_or, take, sym, ap, ◌∙◌, mul_assoc, arith}
+use Rattle.std.proofs.Common.{◌≡◌, ℕ, ◌+◌, ◌*◌, ◌<◌, ◌≤◌, true, cond, ◌&&◌, eqb, List, length, get_or, take, Ok, Err, Result, sym, refl, ap, ◌∙◌, mul_assoc, arith}
 use Rattle.std.proofs.lemmas.Nat.{mul-le}
 use Rattle.std.proofs.lemmas.Bool.{and_parts, and_from, eqb-true, eq-eqb, cond-true}
+use Rattle.octets.specs.Outcome.{Refused, outcome}
 use Rattle.octets.specs.Written.{written}
 use Rattle.octets.specs.Shares.{share, byte_of}
 use Rattle.octets.proofs.Shares.{byte_take}
@@ -10,8 +11,10 @@ use Rattle.codes.specs.Code.{Table, symbol}
 use Rattle.codes.specs.Words.{codeword}
 use Rattle.codes.proofs.Words.{applied_data, codeword_length, codeword_byte}
 use Rattle.erasure.specs.Limits.{ok_width, ok_size}
+use Rattle.erasure.specs.Refusals.{told}
+use Rattle.erasure.specs.declared.refusal.CodeRefusal.{CodeRefusal}
 use Rattle.erasure.specs.Calls.{encode_outcome, complete_fits}
-use Rattle.erasure.proofs.Recovers.{encode_fine}
+use Rattle.erasure.proofs.Recovers.{encode_fine, not_both}
 use Rattle.erasure.proofs.Parity.{complete_fits_lem}
 use Rattle.erasure.proofs.Bounds.{width_most, width_some, size_most}
 use Rattle.extension.specs.Square.{cell_byte, extension, fill_fits}
@@ -84,14 +87,29 @@ extension_from_rows T k s d sq rows =
     byte_take k (2 * k * s) i (c * s + b) sq hi lt ∙ rows i hi (c * s + b) lt ∙ codeword_byte T k s c b (share (k * s) i d) hc hb
     ∙ applied_data k (T k c) (λ j. byte_of s j b (share (k * s) i d)) (λ j. cell_byte k s i j b d) (λ j hj. byte_row k s i j b d hj hb)))
 
+-- a row of the data and a line of the square can be encoded
+pub row_fits : (k s : ℕ) (row old : List ℕ) → ok_width k ≡ true → ok_size s ≡ true → length row ≡ k * s → length old ≡ 2 * k * s
+    → encode_outcome k s (length row) (length old) ≡ Ok tt
+row_fits k s row old wide sized lr lo =
+    encode_fine k s (length row) (length old) wide sized
+    (and_from (eqb (length row) (k * s)) (eqb (length old) (2 * k * s)) (eq-eqb (length row) (k * s) lr) (eq-eqb (length old) (2 * k * s) lo))
+
+-- and where nothing is refused there is no refusal
+pub never_refused : (r : Result (Unit {0}) CodeRefusal) (o : Result (Unit {0}) Refused) → outcome told r ≡ o → o ≡ Ok tt → ((x : Unit {0}) → r ≡ Ok x → ⊥) → ⊥
+never_refused (Ok x) o e f n = n x refl
+never_refused (Err y) o e f n = not_both o (told y) tt (sym e) f
+
 -- what an encoding of one row leaves in its part of the square
 pub encoded_row : (T : Table) (k s : ℕ) (row old new : List ℕ) → ok_width k ≡ true → ok_size s ≡ true → length row ≡ k * s → length old ≡ 2 * k * s
     → new ≡ written (encode_outcome k s (length row) (length old)) (codeword T k s row) old → new ≡ codeword T k s row
 encoded_row T k s row old new wide sized lr lo e =
-    e
-    ∙ ap (λ o. written o (codeword T k s row) old)
-    (encode_fine k s (length row) (length old) wide sized
-    (and_from (eqb (length row) (k * s)) (eqb (length old) (2 * k * s)) (eq-eqb (length row) (k * s) lr) (eq-eqb (length old) (2 * k * s) lo)))
+    e ∙ ap (λ o. written o (codeword T k s row) old) (row_fits k s row old wide sized lr lo)
+
+-- a square can be completed
+pub columns_fit : (k s : ℕ) (old : List ℕ) → ok_width k ≡ true → ok_size s ≡ true → length old ≡ 2 * k * (2 * k * s)
+    → complete_fits k (2 * k) s (length old) ≡ true
+columns_fit k s old wide sized long =
+    complete_fits_lem k (2 * k) s (length old) wide (omega (arith, width_some k wide)) (omega (arith, width_most k wide)) (size_most s sized) long
 
 -- what the completion of a square of rows leaves in it
 pub columns_filled : (T : Table) (k s : ℕ) (old new : List ℕ) → ok_width k ≡ true → ok_size s ≡ true → length old ≡ 2 * k * (2 * k * s)
@@ -100,4 +118,4 @@ pub columns_filled : (T : Table) (k s : ℕ) (old new : List ℕ) → ok_width k
 columns_filled T k s old new wide sized long e =
     e
     ∙ cond-true (complete_fits k (2 * k) s (length old)) (codeword T k (2 * k * s) (take (k * (2 * k * s)) old)) old
-    (complete_fits_lem k (2 * k) s (length old) wide (omega (arith, width_some k wide)) (omega (arith, width_most k wide)) (size_most s sized) long)
+    (columns_fit k s old wide sized long)

@@ -21,22 +21,13 @@ fn fill_rows<C: Code>(k: usize, s: usize, shares: &[u8], square: &mut [u8])
 {
     let row = k * s;
     let line = 2 * k * s;
+    // By number: of what is written through `chunks_exact_mut` a proof knows nothing.
     for r in 0..k {
-        let _ = encode::<C>(
-            k,
-            s,
-            &shares[r * row..r * row + row],
-            &mut square[r * line..r * line + line],
-        );
+        let data = &shares[r * row..r * row + row];
+        let Ok(()) = encode::<C>(k, s, data, &mut square[r * line..r * line + line]) else {
+            unreachable()
+        };
     }
-}
-
-// Extends all columns at once: the first k rows are k shares of a code whose shares are rows, and the others complete the codeword.
-fn fill_columns<C: Code>(k: usize, s: usize, square: &mut [u8])
-    requires { k < 33 }
-    ensures { square.new ≡ (if complete_fits k (2 * k) s (length square.old) then codeword C.Code.table k (2 * k * s) (take (k * (2 * k * s)) square.old) else square.old) }
-{
-    let _ = complete::<C>(k, 2 * k, s, square);
 }
 
 // Fills the square of k by k shares of s bytes each, the data. Where k, s or a length is wrong, the square is as it was.
@@ -52,6 +43,6 @@ pub fn fill<C: Code>(k: usize, s: usize, shares: &[u8], square: &mut [u8]) -> Re
         return Err(Misfit);
     }
     fill_rows::<C>(k, s, shares, square);
-    fill_columns::<C>(k, s, square);
-    Ok(())
+    // The rows so far are k shares of one codeword, whose shares are rows: the others complete it.
+    complete::<C>(k, 2 * k, s, square)
 }

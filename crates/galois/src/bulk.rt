@@ -8,11 +8,8 @@ use crate::element::times_x;
 pub fn add_share(sum: &mut [u8], share: &[u8])
     ensures { sum.new ≡ added sum.old share.now }
 {
-    let common = if sum.len() < share.len() {
-        sum.len()
-    } else {
-        share.len()
-    };
+    let common = sum.len().min(share.len());
+    // By index: of what is written through a `zip` over `iter_mut` a proof knows nothing.
     for i in 0..common {
         sum[i] ^= share[i];
     }
