@@ -1,3 +1,4 @@
 pub mod Claims
+pub mod Cuts
 pub mod Forms
 pub mod Records

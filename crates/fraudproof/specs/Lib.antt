@@ -1,4 +1,5 @@
 pub mod Form
+pub mod Left
 pub mod Proof
 pub mod Reads
 pub mod Witness

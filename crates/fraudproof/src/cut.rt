@@ -1,39 +1,56 @@
-// Cutting a witness from its record.
-ghost use Rattle.std.specs.Prelude.{◌≡◌, ◌+◌, ◌-◌, ◌*◌, ◌/◌, ◌<◌, ◌≤◌, length, drop, slice_index, slice_range};
-ghost use Rattle.fraudproof.specs.Witness.{some_values, witness_in};
+// Cutting witnesses from their records.
+ghost use Rattle.std.specs.Prelude.{◌≡◌};
+ghost use Rattle.fraudproof.specs.Left.{witnesses_left};
+ghost use Rattle.fraudproof.specs.Witness.{some_values, witness_in, witnesses_of};
 ghost use Rattle.header.specs.Fields.{fields_of};
 
 use crate::proof::Proof;
 use crate::witness::Witness;
 use header::header::Header;
 
-// The bytes in front of a record's body, and those of place and axis in front of the share.
-const HEAD_LEN: usize = 6;
-
-const SHARE_AT: usize = 9;
-
-// The bytes from record i on, of records of `size` bytes.
-fn from_record(records: &[u8], size: usize, i: usize) -> &[u8]
-    requires { (0 < size) × (i < length records.now / size) }
-    ensures value { result.now ≡ drop (i * size) records.now }
-    ensures long { size ≤ length result.now }
-{
-    &records[i * size..]
+// The witnesses of a proof in the block of a header, one after the other. Bytes behind the last whole record are none.
+#[derive(Clone, Copy)]
+pub struct Witnesses<'h, 'a> {
+    header: &'h Header,
+    records: &'a [u8],
 }
 
-// The witness whose record these bytes begin with; its share ends at `cut`, and its path at `end`.
-fn cut_witness(bytes: &[u8], cut: usize, end: usize) -> Witness
-    requires { (9 ≤ cut) × ((cut ≤ end) × (end ≤ length bytes.now)) }
-    ensures place { result.place ≡ slice_index bytes.now 6 + slice_index bytes.now 7 * 256 }
-    ensures axis { result.axis ≡ slice_index bytes.now 8 }
-    ensures share { result.share.now ≡ slice_range bytes.now 9 cut }
-    ensures path { result.path.now ≡ slice_range bytes.now cut end }
-{
-    Witness {
-        place: bytes[6] as u16 + bytes[7] as u16 * 256,
-        axis: bytes[8],
-        share: &bytes[SHARE_AT..cut],
-        path: &bytes[cut..end],
+impl<'h, 'a> Iterator for Witnesses<'h, 'a> {
+    ghost use Rattle.std.specs.Iterator.{YieldsFirstBy, item_count};
+    ghost use Rattle.fraudproof.specs.Left.{witnesses_left};
+    ghost use Rattle.fraudproof.specs.Witness.{values_of};
+
+    type Item = Witness<'a>;
+
+    ghost next_gives = { YieldsFirstBy values_of witnesses_left };
+
+    ghost remaining = { item_count witnesses_left };
+
+    // The records were read before, or are any bytes: so what stands in their heads is not looked at.
+    fn next(&mut self) -> Option<Witness<'a>> {
+        let n = self.header.lengths();
+        let ([_, _, _, _, _, _, low, high, axis], parts) = self.records.split_first_chunk::<9>()?;
+        let (share, behind) = parts.split_at_checked(n.share)?;
+        let (path, others) = behind.split_at_checked(n.path)?;
+        self.records = others;
+        Some(Witness {
+            place: u16::from_le_bytes([*low, *high]),
+            axis: *axis,
+            share,
+            path,
+        })
+    }
+}
+
+impl<'a> Proof<'a> {
+    // Its witnesses in the block of header h.
+    pub fn witnesses<'h>(&self, h: &'h Header) -> Witnesses<'h, 'a>
+        ensures { witnesses_left result ≡ witnesses_of (fields_of h.now) self.now.witnesses.now }
+    {
+        Witnesses {
+            header: h,
+            records: self.witnesses,
+        }
     }
 }
 
@@ -41,11 +58,5 @@ fn cut_witness(bytes: &[u8], cut: usize, end: usize) -> Witness
 pub fn witness_of<'a>(h: &Header, p: &Proof<'a>, i: usize) -> Option<Witness<'a>>
     ensures { some_values result ≡ witness_in (fields_of h.now) p.now.witnesses.now i }
 {
-    let n = h.lengths();
-    let size = HEAD_LEN + n.witness_body;
-    if i >= p.witnesses.len() / size {
-        return None;
-    }
-    let record = from_record(p.witnesses, size, i);
-    Some(cut_witness(record, SHARE_AT + n.share, size))
+    p.witnesses(h).nth(i)
 }
