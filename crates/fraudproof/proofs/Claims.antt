@@ -1,5 +1,5 @@
 -- The claim of a proof, and the parts of the proof that was read.
-use Rattle.std.proofs.Common.{◌≡◌, ℕ, ◌+◌, ◌-◌, ◌*◌, ◌<◌, ◌≤◌, true, List, length, get_or, take, drop, Ok, Err, Result, sym, refl, ap, ◌∙◌, arith, length-drop, length-take-le, Bor}
+use Rattle.std.proofs.Common.{◌≡◌, ℕ, ◌+◌, ◌-◌, ◌*◌, ◌<◌, ◌≤◌, true, List, length, get_or, take, drop, Ok, Err, Result, sym, refl, ap, ◌∙◌, zero-add, arith, length-drop, length-take-le, Bor}
 use Rattle.std.proofs.lemmas.Bool.{eqb-true}
 use Rattle.std.proofs.lemmas.Bool.Decides.{nat_tests}
 use Rattle.octets.specs.Outcome.{Refused}
@@ -10,8 +10,10 @@ use Rattle.wire.specs.declared.due.Due.TheVariants as due
 use Rattle.wire.specs.Values as values
 use Rattle.wire.specs.Values.{Rec, claim}
 use Rattle.wire.specs.Reading.{is_due, kind_in, body_len, body_for, record_in, in_range, reads_at}
+use Rattle.wire.specs.Readers.{rest_of, spot_of}
 use Rattle.wire.specs.Writing.{first_of, second_of}
 use Rattle.wire.specs.Parts.{value_of, Spot, after}
+use Rattle.wire.specs.declared.reader.Reader.{Reader}
 use Rattle.wire.specs.declared.record.Record.{Record}
 use Rattle.wire.specs.declared.record.Record.TheVariants.{Header, Roots, Group, Share, GroupEnd, Claim, Witness}
 use Rattle.wire.proofs.Trips.{cut_at, behind_is}
@@ -23,8 +25,7 @@ pub record Read (h : Fields) (bs : List ℕ) (v : values.Claim) (rest : List ℕ
   pub index_low : v.index < width h
   pub root_long : length v.root ≡ digest_len
   pub path_long : length v.path ≡ data_path_len h
-  pub body : body_len bs ≡ claim_body h
-  pub shorter : length rest ≤ length bs
+  pub behind : length rest + (head_len + claim_body h) ≡ length bs
 
 -- where a claim is due no other record is read
 pub claim_due : (h : Fields) (at : ℕ) (bs : List ℕ) (x : Rec) (rest : List ℕ) → reads_at h due.Claim at bs ≡ Ok (x, rest) → (v : values.Claim) × (x ≡ claim v)
@@ -69,8 +70,7 @@ claim_read h at bs x rest v p is =
       index_low = r.1;
       root_long = ap length (sym root_is) ∙ length-take-le digest_len (drop 3 b) (omega arith);
       path_long = ap length (sym path_is) ∙ length-drop digest_len (drop 3 b) ∙ omega arith;
-      body = n;
-      shorter = omega (arith, ap length q.0, length-drop (head_len + body_for h (kind_in bs)) bs);
+      behind = omega (arith, ap length q.0, length-drop (head_len + body_for h (kind_in bs)) bs, q.1, f);
     }
 
 module _ (h : Fields) (bs : List ℕ) where
@@ -86,3 +86,15 @@ module _ (h : Fields) (bs : List ℕ) where
 
 pub further : (p : Spot) (a b : ℕ) → after (after p a) b ≡ after p (a + b)
 further p a b = let e : p.1 + a + b ≡ p.1 + (a + b) = omega arith in ap (λ n. (p.0, n)) e
+
+-- a reader at the front of some bytes
+module _ (r : Reader) (b : Bor (List ℕ)) (bytes : r.bytes ≡ b) (place : r.at ≡ 0) where
+  pub from_front : (h : Fields) (o : Result (Rec × List ℕ) Refused) → o ≡ reads_at h due.Claim r.at (rest_of r) → o ≡ reads_at h due.Claim 0 b.now
+  from_front h o p = p ∙ ap (λ n. reads_at h due.Claim n (drop n r.bytes.now)) place ∙ ap (λ x. reads_at h due.Claim 0 x.now) bytes
+
+  pub front_spot : (n m : ℕ) → after (after (spot_of r) n) m ≡ after b.ref_ptr (n + m)
+  front_spot n m = ap (λ i. after (after (after r.bytes.ref_ptr i) n) m) place ∙ ap (λ x. after (after (after x.ref_ptr 0) n) m) bytes ∙ further (after b.ref_ptr 0) n m ∙ further b.ref_ptr 0 (n + m) ∙ ap (after b.ref_ptr) (zero-add (n + m))
+
+-- one that has come further
+pub place_is : (r : Reader) (b : Bor (List ℕ)) → r.bytes ≡ b → r.at ≡ length b.now - length (rest_of r)
+place_is r b bytes = omega (arith, ap (λ x. length x.now) bytes, length-drop r.at r.bytes.now, r.inside)

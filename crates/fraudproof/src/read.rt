@@ -1,34 +1,30 @@
 // Reading a proof.
-ghost use Rattle.std.specs.Prelude.{◌≡◌, ℕ, ◌+◌, ◌*◌, ◌^◌, ◌<◌, ◌≤◌, length, IfOk, OnOk};
+ghost use Rattle.std.specs.Prelude.{◌≡◌, IfOk, OnOk};
 ghost use Rattle.octets.specs.Outcome.{outcome_by};
 ghost use Rattle.fraudproof.specs.Form.{Formed, Lies, case_outcome, witnesses_from};
-ghost use Rattle.fraudproof.specs.Proof.{case_of, witness_at, witness_len};
+ghost use Rattle.fraudproof.specs.Proof.{case_of};
 ghost use Rattle.fraudproof.specs.Reads.{WitnessRecords, records_of};
 ghost use Rattle.header.specs.Fields.{fields_of};
+ghost use Rattle.wire.specs.Readers.{rest_of};
 ghost use Rattle.wire.specs.Refusals.{told_read};
 
 use crate::proof::Proof;
 use header::header::Header;
 use wire::due::Due;
-use wire::read::read_at;
+use wire::reader::Reader;
 use wire::record::Record;
 use wire::refusal::ReadRefusal;
 
-// Reads the witness records behind a claim, which begin at place `start` of the proof, up to its end.
-fn read_witnesses(h: &Header, start: usize, records: &[u8]) -> Result<(), ReadRefusal>
-    requires { start + length records.now < 2 ^ 64 }
-    ensures answer { outcome_by (records_of (fields_of h.now) records.now) told_read result ≡ witnesses_from (fields_of h.now) h.now.k start records.now }
-    ensures form { OnOk result (WitnessRecords (fields_of h.now) records.now) }
+// Reads the witness records behind a claim, up to the end of the proof.
+fn read_witnesses(h: &Header, mut reader: Reader) -> Result<(), ReadRefusal>
+    ensures answer { outcome_by (records_of (fields_of h.now) (rest_of reader.entry)) told_read result ≡ witnesses_from (fields_of h.now) h.now.k reader.entry.at (rest_of reader.entry) }
+    ensures form { OnOk result (WitnessRecords (fields_of h.now) (rest_of reader.entry)) }
 {
-    let mut rest = records;
-    let mut at = start;
-    for _n in 0..h.k as usize {
-        let (_, behind) = read_at(h, Due::Witness, at, rest)?;
-        at += rest.len() - behind.len();
-        rest = behind;
+    for _n in 0..h.k {
+        reader.read(h, Due::Witness)?;
     }
-    if !rest.is_empty() {
-        read_at(h, Due::Nothing, at, rest)?;
+    if !reader.is_at_end() {
+        reader.read(h, Due::Nothing)?;
     }
     Ok(())
 }
@@ -39,17 +35,19 @@ pub fn read_proof<'a>(h: &Header, bytes: &'a [u8]) -> Result<Proof<'a>, ReadRefu
     ensures formed { IfOk result (Formed (fields_of h.now)) }
     ensures place { IfOk result (Lies (fields_of h.now) bytes.entry.ref_ptr) }
 {
-    let (item, witnesses) = read_at(h, Due::Claim, 0, bytes)?;
+    let mut reader = Reader::new(bytes);
     let Record::Claim {
         axis,
         index,
         root,
         path,
-    } = item
+    } = reader.read(h, Due::Claim)?
     else {
+        // Where a claim is due, the reader gives no other record.
         unreachable()
     };
-    read_witnesses(h, bytes.len() - witnesses.len(), witnesses)?;
+    let witnesses = reader.rest();
+    read_witnesses(h, reader)?;
     Ok(Proof {
         axis,
         index,
