@@ -1,17 +1,18 @@
 -- Cells of a line.
-use Rattle.std.proofs.Common.{◌≡◌, ℕ, ◌+◌, ◌<◌, Bool, true, false, cond, eqb, List, get_or, take, drop, Some, None, Option, sym, refl, ap, ◌∙◌, arith}
-use Rattle.std.proofs.lemmas.Bool.{cond-true, cond-false, eq-eqb, ne_eqb}
+use Rattle.std.proofs.Common.{◌≡◌, ℕ, ◌<◌, Bool, true, false, cond, eqb, List, get_or, Some, None, Option, sym, refl, ap, ◌∙◌, arith}
+use Rattle.std.proofs.lemmas.Bool.{cond-true}
 use Rattle.std.proofs.lemmas.Bool.Decides.{nat_tests}
 use Rattle.evidence.specs.Evidence.{Evidence}
 use Rattle.blockfile.specs.declared.index.Index.{Index}
-use Rattle.blockfile.specs.Index.{indexed, evidence_by, evidence_in}
+use Rattle.blockfile.specs.declared.index.Place.{Place}
+use Rattle.blockfile.specs.Index.{entry_of, indexed, evidence_by, evidence_in}
 use Rattle.octets.proofs.Cells.{cell_below}
 use Rattle.erasure.specs.Limits.{ok_width}
 use Rattle.header.specs.declared.cell.Axis.{Axis}
 use Rattle.header.specs.declared.cell.Axis.TheVariants.{Row, Column}
 use Rattle.header.specs.Fields.{Fields}
 use Rattle.header.specs.Lines.{row_at, col_at}
-use Rattle.header.specs.Sizes.{width, cell_number, has_cell, path_len}
+use Rattle.header.specs.Sizes.{width, cell_number, has_cell}
 use Rattle.header.proofs.Measures.{cells_most}
 
 pub row_low : (x : Axis) (i p w : ℕ) → i < w → p < w → row_at x i p < w
@@ -35,7 +36,7 @@ inside_of h r c e = (grind (arith, nat_tests), grind (arith, nat_tests))
 module _ (h : Fields) (bs : List ℕ) (ix : Index) (r c : ℕ) where
   pub says_none : None ≡ cond (has_cell h r c) (Some (cell_number h r c)) None → None ≡ indexed h bs ix r c
   unfolding indexed
-  says_none e = none (has_cell h r c) (evidence_by h bs (get_or ix.at (cell_number h r c) 0) (get_or ix.column (cell_number h r c) false)) e
+  says_none e = none (has_cell h r c) (evidence_by h bs (get_or ix.at (cell_number h r c) 0) (get_or ix.axis (cell_number h r c) Row)) e
     where
       none : (b : Bool) (x : Option Evidence) → ◌≡◌ {A = Option ℕ} None (cond b (Some (cell_number h r c)) None) → None ≡ cond b x None
       none true x e = let z : ◌≡◌ {A = ℕ} 0 1 = cc in absurd (omega arith)
@@ -45,21 +46,24 @@ module _ (h : Fields) (bs : List ℕ) (ix : Index) (r c : ℕ) where
   some true n e = (refl, cc)
   some false n e = let z : ◌≡◌ {A = ℕ} 0 1 = cc in absurd (omega arith)
 
-  pub says_by : (n : ℕ) → Some n ≡ cond (has_cell h r c) (Some (cell_number h r c)) None → evidence_by h bs (get_or ix.at n 0) (get_or ix.column n false) ≡ indexed h bs ix r c
+  pub says_by : (n : ℕ) → Some n ≡ cond (has_cell h r c) (Some (cell_number h r c)) None → evidence_by h bs (get_or ix.at n 0) (get_or ix.axis n Row) ≡ indexed h bs ix r c
   unfolding indexed
   says_by n e =
       let s = some (has_cell h r c) n e in
-      ap (λ m. evidence_by h bs (get_or ix.at m 0) (get_or ix.column m false)) s.1 ∙ sym (cond-true (has_cell h r c) _ None s.0)
+      ap (λ m. evidence_by h bs (get_or ix.at m 0) (get_or ix.axis m Row)) s.1 ∙ sym (cond-true (has_cell h r c) _ None s.0)
 
-pub none_there : (h : Fields) (bs : List ℕ) (p : ℕ) (b : Bool) → p ≡ 0 → None ≡ evidence_by h bs p b
-none_there h bs p b e = sym (cond-true (eqb p 0) None (Some (evidence_in h bs p b)) (eq-eqb p 0 e))
+-- what an index says of a cell, by the share record that it has for the cell
+module _ (h : Fields) (bs : List ℕ) (ix : Index) (n : ℕ) where
+  pub none_there : None ≡ entry_of ix n → None ≡ evidence_by h bs (get_or ix.at n 0) (get_or ix.axis n Row)
+  none_there e = none (eqb (get_or ix.at n 0) 0) (record { at = get_or ix.at n 0; axis = get_or ix.axis n Row }) (evidence_in h bs (get_or ix.at n 0) (get_or ix.axis n Row)) e
+    where
+      none : (b : Bool) (y : Place) (e : Evidence) → ◌≡◌ {A = Option Place} None (cond b None (Some y)) → ◌≡◌ {A = Option Evidence} None (cond b None (Some e))
+      none true y e p = refl
+      none false y e p = let z : ◌≡◌ {A = ℕ} 0 1 = cc in absurd (omega arith)
 
-pub found_there : (h : Fields) (bs : List ℕ) (p : ℕ) (b : Bool) → (p ≡ 0 → ⊥) → (x : Axis) (s q : List ℕ) (n m : ℕ) → n ≡ h.s → m ≡ path_len h → x ≡ cond b Column Row → s ≡ take n (drop (p + 8) bs) → q ≡ take m (drop (p + (8 + n)) bs)
-    → Some (record { axis = x; share = s; path = q }) ≡ evidence_by h bs p b
-found_there h bs p b ne x s q n m en em ex es eq =
-    let s-is : s ≡ take h.s (drop (p + 8) bs) = es ∙ ap (λ i. take i (drop (p + 8) bs)) en in
-    let q-is : q ≡ take (path_len h) (drop (p + (8 + h.s)) bs) = eq ∙ ap (λ i. take i (drop (p + (8 + n)) bs)) em ∙ ap (λ i. take (path_len h) (drop (p + (8 + i)) bs)) en in
-    ap (λ y. Some (record { axis = y; share = s; path = q })) ex
-    ∙ ap (λ y. Some (record { axis = cond b Column Row; share = y; path = q })) s-is
-    ∙ ap (λ y. Some (record { axis = cond b Column Row; share = take h.s (drop (p + 8) bs); path = y })) q-is
-    ∙ sym (cond-false (eqb p 0) None (Some (evidence_in h bs p b)) (ne_eqb p 0 ne))
+  pub found_there : (y : Place) → Some y ≡ entry_of ix n → Some (evidence_in h bs y.at y.axis) ≡ evidence_by h bs (get_or ix.at n 0) (get_or ix.axis n Row)
+  found_there y e = found (eqb (get_or ix.at n 0) 0) (record { at = get_or ix.at n 0; axis = get_or ix.axis n Row }) e
+    where
+      found : (b : Bool) (w : Place) → ◌≡◌ {A = Option Place} (Some y) (cond b None (Some w)) → ◌≡◌ {A = Option Evidence} (Some (evidence_in h bs y.at y.axis)) (cond b None (Some (evidence_in h bs w.at w.axis)))
+      found true w p = let z : ◌≡◌ {A = ℕ} 0 1 = cc in absurd (omega arith)
+      found false w p = let same : y ≡ w = cc in ap (λ t. Some (evidence_in h bs t.at t.axis)) same

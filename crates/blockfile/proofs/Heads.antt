@@ -13,10 +13,28 @@ use Rattle.wire.specs.declared.record.Record.TheVariants.{Header, Roots, Group, 
 use Rattle.wire.specs.Values.{Rec, header, roots}
 use Rattle.wire.specs.Parts.{value_of}
 use Rattle.wire.specs.Reading.{is_due, kind_in, body_len, body_for, record_in, in_range, reads_at}
+use Rattle.wire.specs.Readers.{rest_of}
 use Rattle.wire.specs.Writing.{first_of}
+use Rattle.wire.specs.declared.reader.Reader.{Reader}
 use Rattle.wire.proofs.Trips.{cut_at, behind_is}
 use Rattle.blockfile.specs.File.{HeadIs, RootsAre, roots_place, groups_place}
 use Rattle.blockfile.specs.Walk.{no_block}
+
+-- what a reader at the front of a file has read, and how far it has come
+pub first_read : (f : Fields) (before after_it : Reader) (x : Rec) → f ≡ no_block → before.at ≡ 0 → after_it.bytes ≡ before.bytes
+    → Ok (x, rest_of after_it) ≡ reads_at f due.Header before.at (rest_of before) → reads_at no_block due.Header 0 before.bytes.now ≡ Ok (x, drop after_it.at before.bytes.now)
+first_read f before after_it x ef z same p =
+    sym (ap (λ b. Ok (x, drop after_it.at b.now)) (sym same) ∙ p ∙ ap (λ g. reads_at g due.Header before.at (rest_of before)) ef ∙ ap (λ n. reads_at no_block due.Header n (drop n before.bytes.now)) z)
+
+pub next_read : (h : Fields) (before after_it : Reader) (x : Rec) → before.at ≡ roots_place → after_it.bytes ≡ before.bytes
+    → Ok (x, rest_of after_it) ≡ reads_at h due.Roots before.at (rest_of before) → reads_at h due.Roots roots_place (drop roots_place before.bytes.now) ≡ Ok (x, drop after_it.at before.bytes.now)
+next_read h before after_it x z same p =
+    sym (ap (λ b. Ok (x, drop after_it.at b.now)) (sym same) ∙ p ∙ ap (λ n. reads_at h due.Roots n (drop n before.bytes.now)) z)
+
+pub come_to : (bs : List ℕ) (n m : ℕ) (x y : Rec) → n ≤ length bs → m ≤ length bs → ◌≡◌ {A = Result (Rec × List ℕ) Refused} (Ok (x, drop n bs)) (Ok (y, drop m bs)) → n ≡ m
+come_to bs n m x y a b e =
+    let q : ◌≡◌ {A = Rec × List ℕ} (x, drop n bs) (y, drop m bs) = cc in
+    omega (arith, ap (λ t. length t.1) q, length-drop n bs, length-drop m bs)
 
 -- where a header is due no other record is read, and where roots are due neither
 pub header_due : (h : Fields) (at : ℕ) (bs : List ℕ) (x : Rec) (rest : List ℕ) → reads_at h due.Header at bs ≡ Ok (x, rest) → (g : Fields) × (x ≡ header g)

@@ -5,14 +5,13 @@ use Rattle.std.proofs.lemmas.Bool.{cond-true, cond-false, ne_eqb, cases_Bool, ca
 use Rattle.std.proofs.lemmas.Bool.Decides.{nat_tests}
 use Rattle.erasure.specs.Limits.{ok_width}
 use Rattle.header.specs.declared.cell.Axis.{Axis}
-use Rattle.header.specs.declared.cell.Axis.TheVariants.{Row, Column}
+use Rattle.header.specs.declared.cell.Axis.TheVariants.{Row}
 use Rattle.header.specs.Fields.{Fields}
 use Rattle.header.specs.Lines.{row_at, col_at}
 use Rattle.header.specs.Sizes.{width, has_cell, cell_number, head_len, path_len, share_body}
 use Rattle.evidence.specs.Evidence.{Evidence}
 use Rattle.blockfile.specs.declared.index.Index.{Index}
-use Rattle.blockfile.specs.Index.{indexed, evidence_by, evidence_in, Within}
-use Rattle.blockfile.specs.Steps.{marked, is_column}
+use Rattle.blockfile.specs.Index.{indexed, evidence_by, evidence_in, marked, Within}
 use Rattle.blockfile.specs.Walk.{Entry, entry_at, shown_in}
 use Rattle.blockfile.proofs.Cells.{row_low, col_low, number_low}
 use Rattle.blockfile.proofs.Shares.{Parts}
@@ -24,7 +23,7 @@ pub record Standing (h : Fields) (bs : List ℕ) (es : List Entry) (ix : Index) 
   pub kept : Kept h bs es ix
   pub within : Within h (length bs) ix.at
   pub at_long : length ix.at ≡ 4096
-  pub column_long : length ix.column ≡ 4096
+  pub axis_long : length ix.axis ≡ 4096
 
 -- cells of one number are one cell
 same_cell : (w r c r' c' : ℕ) → c < w → c' < w → r * w + c ≡ r' * w + c' → (r ≡ r') × (c ≡ c')
@@ -37,17 +36,13 @@ inside h r c a b = grind (arith, nat_tests)
 outside : (h : Fields) (r c : ℕ) → has_cell h r c ≡ true → (r < width h) × (c < width h)
 outside h r c e = (grind (arith, nat_tests), grind (arith, nat_tests))
 
-axis_of_lem : (x : Axis) → cond (is_column x) Column Row ≡ x
-axis_of_lem Row = refl
-axis_of_lem Column = refl
-
 -- the cell of a share is seen exactly if the index names a record there
 pub seen_is : (h : Fields) (bs : List ℕ) (es : List Entry) (ix : Index) → Kept h bs es ix → (r c : ℕ) → r < width h → c < width h
     → is_some (shown_in es r c) ≡ not (eqb (get_or ix.at (cell_number h r c) 0) 0)
 unfolding indexed
 seen_is h bs es ix k r c a b =
-    ap is_some (sym (k r c)) ∙ ap (λ t. is_some (cond t (evidence_by h bs (get_or ix.at (cell_number h r c) 0) (get_or ix.column (cell_number h r c) false)) None)) (inside h r c a b)
-    ∙ none (eqb (get_or ix.at (cell_number h r c) 0) 0) (evidence_in h bs (get_or ix.at (cell_number h r c) 0) (get_or ix.column (cell_number h r c) false))
+    ap is_some (sym (k r c)) ∙ ap (λ t. is_some (cond t (evidence_by h bs (get_or ix.at (cell_number h r c) 0) (get_or ix.axis (cell_number h r c) Row)) None)) (inside h r c a b)
+    ∙ none (eqb (get_or ix.at (cell_number h r c) 0) 0) (evidence_in h bs (get_or ix.at (cell_number h r c) 0) (get_or ix.axis (cell_number h r c) Row))
   where
     none : (t : Bool) (e : Evidence) → is_some (cond t None (Some e)) ≡ not t
     none true e = refl
@@ -60,7 +55,7 @@ module _ (h : Fields) (bs : List ℕ) (es : List Entry) (ix : Index) (st : Stand
   cell = cell_number h (row_at x i p) (col_at x i p)
 
   abbrev new : Index
-  new = marked ix (cell_number h (row_at x i p) (col_at x i p)) at (is_column x)
+  new = marked ix (cell_number h (row_at x i p) (col_at x i p)) at x
 
   row_in : row_at x i p < width h
   row_in = row_low x i p (width h) line parts.place_low
@@ -77,22 +72,21 @@ module _ (h : Fields) (bs : List ℕ) (es : List Entry) (ix : Index) (st : Stand
   path_at : take (path_len h) (drop (at + (8 + h.s)) bs) ≡ q
   path_at = ap (take (path_len h)) (sym (drop-drop (8 + h.s) at bs)) ∙ ap (λ l. take (path_len h) (drop (8 + h.s) l)) (sym rest_is) ∙ sym parts.path_is
 
-  evidence_at : evidence_in h bs at (is_column x) ≡ record { axis = x; share = s; path = q }
+  evidence_at : evidence_in h bs at x ≡ record { axis = x; share = s; path = q }
   evidence_at =
-      ap (λ y. record { axis = y; share = take h.s (drop (at + 8) bs); path = take (path_len h) (drop (at + (8 + h.s)) bs) }) (axis_of_lem x)
-      ∙ ap (λ y. record { axis = x; share = y; path = take (path_len h) (drop (at + (8 + h.s)) bs) }) share_at
+      ap (λ y. record { axis = x; share = y; path = take (path_len h) (drop (at + (8 + h.s)) bs) }) share_at
       ∙ ap (λ y. record { axis = x; share = s; path = y }) path_at
 
   here : indexed h bs new (row_at x i p) (col_at x i p) ≡ Some (record { axis = x; share = s; path = q })
   unfolding indexed
   here =
       let a : get_or (set ix.at cell at) cell 0 ≡ at = get_or-set_same ix.at cell at 0 (omega (arith, n_low, st.at_long)) in
-      let b : get_or (set ix.column cell (is_column x)) cell false ≡ is_column x = get_or-set_same ix.column cell (is_column x) false (omega (arith, n_low, st.column_long)) in
+      let b : get_or (set ix.axis cell x) cell Row ≡ x = get_or-set_same ix.axis cell x Row (omega (arith, n_low, st.axis_long)) in
       let z : eqb at 0 ≡ false = ne_eqb at 0 (omega arith) in
       cond-true (has_cell h (row_at x i p) (col_at x i p)) _ None (inside h (row_at x i p) (col_at x i p) row_in col_in)
-      ∙ ap (λ y. evidence_by h bs y (get_or (set ix.column cell (is_column x)) cell false)) a
+      ∙ ap (λ y. evidence_by h bs y (get_or (set ix.axis cell x) cell Row)) a
       ∙ ap (evidence_by h bs at) b
-      ∙ cond-false (eqb at 0) None (Some (evidence_in h bs at (is_column x))) z
+      ∙ cond-false (eqb at 0) None (Some (evidence_in h bs at x)) z
       ∙ ap Some evidence_at
 
   there : (r c : ℕ) → (eqb (row_at x i p) r && eqb (col_at x i p) c) ≡ false → indexed h bs new r c ≡ indexed h bs ix r c
@@ -101,15 +95,15 @@ module _ (h : Fields) (bs : List ℕ) (es : List Entry) (ix : Index) (st : Stand
     | inl t ↦
         let o = outside h r c t in
         let ne : cell_number h r c ≢ cell = λ same. differs (same_cell (width h) r c (row_at x i p) (col_at x i p) o.1 col_in same) in
-        ap (λ y. cond (has_cell h r c) (evidence_by h bs y (get_or (set ix.column cell (is_column x)) (cell_number h r c) false)) None) (get_or-set_other ix.at cell (cell_number h r c) at 0 ne)
-        ∙ ap (λ y. cond (has_cell h r c) (evidence_by h bs (get_or ix.at (cell_number h r c) 0) y) None) (get_or-set_other ix.column cell (cell_number h r c) (is_column x) false ne)
+        ap (λ y. cond (has_cell h r c) (evidence_by h bs y (get_or (set ix.axis cell x) (cell_number h r c) Row)) None) (get_or-set_other ix.at cell (cell_number h r c) at 0 ne)
+        ∙ ap (λ y. cond (has_cell h r c) (evidence_by h bs (get_or ix.at (cell_number h r c) 0) y) None) (get_or-set_other ix.axis cell (cell_number h r c) x Row ne)
     | inr f ↦ cond-false (has_cell h r c) _ None f ∙ sym (cond-false (has_cell h r c) _ None f)
   ]
     where
       differs : (r ≡ row_at x i p) × (c ≡ col_at x i p) → ⊥
       differs both = let a = both.0 in let b = both.1 in grind (arith, nat_tests)
 
-  pub noted_more : Standing h bs (entry_at x i p s q ∷ es) (marked ix (cell_number h (row_at x i p) (col_at x i p)) at (is_column x))
+  pub noted_more : Standing h bs (entry_at x i p s q ∷ es) (marked ix (cell_number h (row_at x i p) (col_at x i p)) at x)
   unfolding shown_in
   noted_more = record {
     kept = λ r c. elim (cases_Bool (eqb (row_at x i p) r && eqb (col_at x i p) c)) [
@@ -123,7 +117,7 @@ module _ (h : Fields) (bs : List ℕ) (es : List Entry) (ix : Index) (st : Stand
       | inr ne ↦ let a : get_or (set ix.at cell at) j 0 ≡ get_or ix.at j 0 = get_or-set_other ix.at cell j at 0 ne in subst (λ y. y + (head_len + share_body h) ≤ length bs) (sym a) (st.within j l (λ z. some' (a ∙ z)))
     ];
     at_long = length-set ix.at cell at ∙ st.at_long;
-    column_long = length-set ix.column cell (is_column x) ∙ st.column_long;
+    axis_long = length-set ix.axis cell x ∙ st.axis_long;
   }
     where
       both : {r c : ℕ} → (eqb (row_at x i p) r && eqb (col_at x i p) c) ≡ true → (row_at x i p ≡ r) × (col_at x i p ≡ c)

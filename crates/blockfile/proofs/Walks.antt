@@ -1,12 +1,14 @@
 -- The walk over a file, with the index in the place of the list of shares.
-use Rattle.std.proofs.Common.{◌≡◌, ℕ, suc, ◌+◌, ◌-◌, ◌<◌, ◌≤◌, Bool, true, false, cond, not, eqb, ltb, List, [], ◌∷◌, length, get_or, drop, replicate, is_some, None, Ok, Err, Option, Result, sym, refl, ap, ◌∙◌, subst, inl, inr, arith, length-drop, drop-drop}
+use Rattle.std.proofs.Common.{◌≡◌, ℕ, suc, ◌+◌, ◌-◌, ◌<◌, ◌≤◌, Bool, true, false, cond, not, eqb, ltb, List, [], ◌∷◌, length, get_or, drop, replicate, is_some, None, Ok, Err, Option, Result, sym, refl, ap, ◌∙◌, subst, inl, inr, arith, length-drop, drop-drop, Bor}
 use lib.ListN.{length-replicate, get_or-replicate}
 use Rattle.std.proofs.lemmas.List.{get_or_past}
-use Rattle.std.proofs.lemmas.Bool.{cond-true, cond-false, cases_Bool, ltb-true, ltb-false}
+use Rattle.std.proofs.lemmas.Bool.{cond-true, cond-false, cases_Bool, ltb-true, ltb-false, lt-ltb, eqb-false}
 use Rattle.octets.specs.Outcome.{Refused, outcome}
 use Rattle.erasure.specs.Limits.{ok_width}
 use Rattle.header.specs.declared.cell.Axis.{Axis}
-use Rattle.header.specs.Fields.{Fields}
+use Rattle.header.specs.declared.cell.Axis.TheVariants.{Row}
+use Rattle.header.specs.Fields.{Fields, fields_of}
+use Rattle.header.specs.declared.header.Header.{Header}
 use Rattle.header.specs.Lines.{row_at, col_at}
 use Rattle.header.specs.Sizes.{width, head_len, cell_number, has_cell}
 use Rattle.evidence.specs.Evidence.{Evidence}
@@ -14,14 +16,16 @@ use Rattle.wire.specs.Refusals.{refused_at}
 use Rattle.wire.specs.Values.{Rec, header, roots, group, share, end, claim, witness}
 use Rattle.wire.specs.Reading.{reads_at, kind_in, body_for}
 use Rattle.wire.proofs.Trips.{cut_at, behind_is}
+use Rattle.wire.specs.declared.reader.Reader.{Reader}
 use Rattle.blockfile.specs.declared.index.Index.{Index}
+use Rattle.blockfile.specs.declared.walk.Walk.{Walk}
 use Rattle.blockfile.specs.declared.point.Point.{Point}
 use Rattle.blockfile.specs.declared.point.Point.TheVariants.{Between, Inside}
 use Rattle.blockfile.specs.declared.refusal.FileRefusal.{FileRefusal}
-use Rattle.blockfile.specs.Index.{indexed, evidence_by}
+use Rattle.blockfile.specs.Index.{indexed, evidence_by, marked}
 use Rattle.blockfile.specs.Opening.{closed, Walks}
 use Rattle.blockfile.specs.Refusals.{told}
-use Rattle.blockfile.specs.Steps.{Held, held, marked, is_column, LineLow, noting, go}
+use Rattle.blockfile.specs.Steps.{Held, held, LineLow, noting, go}
 use Rattle.blockfile.specs.Walk.{Entry, Sofar, sofar, entry_at, shown_in, due_at, step, finish_by, stepped, turned, walk}
 use Rattle.blockfile.proofs.Cells.{row_low, col_low}
 use Rattle.blockfile.proofs.Kept.{Standing, seen_is, noted_more}
@@ -34,34 +38,34 @@ Agrees h bs pt es at x (Err e) = step (sofar pt es) at x ≡ Err e
 
 module _ (h : Fields) (bs : List ℕ) (wide : ok_width h.k ≡ true) (at : ℕ) (rest : List ℕ) (some : 0 < at) (rest_is : rest ≡ drop at bs) (whole : at + length rest ≡ length bs) (behind : List ℕ) where
   noting_agrees : (x : Axis) (i p : ℕ) (s q : List ℕ) (es : List Entry) (ix : Index) → Standing h bs es ix → i < width h → reads_at h (due_at (Inside x i)) at rest ≡ Ok (share p s q, behind)
-      → Agrees h bs (Inside x i) es at (share p s q) (noting (Inside x i) ix (cell_number h (row_at x i p) (col_at x i p)) at (is_column x))
+      → Agrees h bs (Inside x i) es at (share p s q) (noting (Inside x i) ix (cell_number h (row_at x i p) (col_at x i p)) at x)
   noting_agrees x i p s q es ix st line e =
       let parts = share_read h at rest p s q behind e in
       let seen = seen_is h bs es ix st.kept (row_at x i p) (col_at x i p) (row_low x i p (width h) line parts.place_low) (col_low x i p (width h) line parts.place_low) in
       let free : Bool = eqb (get_or ix.at (cell_number h (row_at x i p) (col_at x i p)) 0) 0 in
       elim (cases_Bool free) [
         | inl t ↦
-            subst (Agrees h bs (Inside x i) es at (share p s q)) (sym (cond-true free (Ok (held (Inside x i) (marked ix (cell_number h (row_at x i p) (col_at x i p)) at (is_column x)))) (Err (refused_at 12 at)) t)) (
+            subst (Agrees h bs (Inside x i) es at (share p s q)) (sym (cond-true free (Ok (held (Inside x i) (marked ix (cell_number h (row_at x i p) (col_at x i p)) at x))) (Err (refused_at 12 at)) t)) (
               entry_at x i p s q ∷ es,
               cond-false (is_some (shown_in es (row_at x i p) (col_at x i p))) (Err (refused_at 12 at)) (Ok (sofar (Inside x i) (entry_at x i p s q ∷ es))) (seen ∙ ap not t),
               noted_more h bs es ix st wide x i p at s q rest line some rest_is parts whole,
-              line,
+              lt-ltb i (width h) line,
             )
         | inr f ↦
-            subst (Agrees h bs (Inside x i) es at (share p s q)) (sym (cond-false free (Ok (held (Inside x i) (marked ix (cell_number h (row_at x i p) (col_at x i p)) at (is_column x)))) (Err (refused_at 12 at)) f))
+            subst (Agrees h bs (Inside x i) es at (share p s q)) (sym (cond-false free (Ok (held (Inside x i) (marked ix (cell_number h (row_at x i p) (col_at x i p)) at x))) (Err (refused_at 12 at)) f))
             (cond-true (is_some (shown_in es (row_at x i p) (col_at x i p))) (Err (refused_at 12 at)) (Ok (sofar (Inside x i) (entry_at x i p s q ∷ es))) (seen ∙ ap not f))
       ]
 
   agrees : (pt : Point) (x : Rec) (es : List Entry) (ix : Index) → Standing h bs es ix → LineLow h pt → reads_at h (due_at pt) at rest ≡ Ok (x, behind) → Agrees h bs pt es at x (go h pt ix at x)
-  agrees Between (group a i) es ix st low e = (es, refl, st, group_read h at rest a i behind e)
+  agrees Between (group a i) es ix st low e = (es, refl, st, lt-ltb i (width h) (group_read h at rest a i behind e))
   agrees Between (header g) es ix st low e = refl
   agrees Between (roots rs) es ix st low e = refl
   agrees Between (share p s q) es ix st low e = refl
   agrees Between end es ix st low e = refl
   agrees Between (claim c) es ix st low e = refl
   agrees Between (witness v) es ix st low e = refl
-  agrees (Inside x i) (share p s q) es ix st low e = noting_agrees x i p s q es ix st low e
-  agrees (Inside x i) end es ix st low e = (es, refl, st, tt)
+  agrees (Inside x i) (share p s q) es ix st low e = noting_agrees x i p s q es ix st (ltb-true i (width h) low) e
+  agrees (Inside x i) end es ix st low e = (es, refl, st, refl)
   agrees (Inside x i) (group a j) es ix st low e = refl
   agrees (Inside x i) (header g) es ix st low e = refl
   agrees (Inside x i) (roots rs) es ix st low e = refl
@@ -147,26 +151,26 @@ nothing_there n i = elim (cases_Bool (ltb i n)) [
 ]
 
 -- an index that names no record says nothing of every cell
-pub empty_standing : (h : Fields) (bs : List ℕ) (ix : Index) → ix.at ≡ replicate 4096 0 → ix.column ≡ replicate 4096 false → Standing h bs [] ix
+pub empty_standing : (h : Fields) (bs : List ℕ) (ix : Index) → ix.at ≡ replicate 4096 0 → ix.axis ≡ replicate {A = Axis} 4096 Row → Standing h bs [] ix
 unfolding indexed shown_in
 empty_standing h bs ix ea ec = record {
-  kept = λ r c. ap (λ l. cond (has_cell h r c) (evidence_by h bs (get_or l (cell_number h r c) 0) (get_or ix.column (cell_number h r c) false)) None) ea
-      ∙ ap (λ p. cond (has_cell h r c) (evidence_by h bs p (get_or ix.column (cell_number h r c) false)) None) (nothing_there 4096 (cell_number h r c))
+  kept = λ r c. ap (λ l. cond (has_cell h r c) (evidence_by h bs (get_or l (cell_number h r c) 0) (get_or ix.axis (cell_number h r c) Row)) None) ea
+      ∙ ap (λ p. cond (has_cell h r c) (evidence_by h bs p (get_or ix.axis (cell_number h r c) Row)) None) (nothing_there 4096 (cell_number h r c))
       ∙ same_both (has_cell h r c);
   within = λ i l some'. absurd (some' (ap (λ p. get_or p i 0) ea ∙ nothing_there 4096 i));
   at_long = ap length ea ∙ length-replicate {A = ℕ} 4096 0;
-  column_long = ap length ec ∙ length-replicate {A = Bool} 4096 false;
+  axis_long = ap length ec ∙ length-replicate {A = Axis} 4096 Row;
 }
   where
     same_both : (b : Bool) → ◌≡◌ {A = Option Evidence} (cond b None None) None
     same_both true = refl
     same_both false = refl
 
-pub starts : (h : Fields) (bs : List ℕ) (start : ℕ) (ix : Index) → 0 < start → start ≤ length bs → ix.at ≡ replicate 4096 0 → ix.column ≡ replicate 4096 false → Walking h bs start Between ix start
+pub starts : (h : Fields) (bs : List ℕ) (start : ℕ) (ix : Index) → 0 < start → start ≤ length bs → ix.at ≡ replicate 4096 0 → ix.axis ≡ replicate {A = Axis} 4096 Row → Walking h bs start Between ix start
 starts h bs start ix some le ea ec = record {
   shares = [];
   standing = empty_standing h bs ix ea ec;
-  low = tt;
+  low = refl;
   some = some;
   inside = le;
   fuel = length (drop start bs);
@@ -197,3 +201,18 @@ pub ended_walk : (h : Fields) (bs : List ℕ) (wide : ok_width h.k ≡ true) (st
 ended_walk h bs wide start pt ix at w le r p =
     let none : length (drop at bs) ≡ 0 = length-drop at bs ∙ omega arith in
     ends_at h bs w.shares ix start pt at w.standing (ends h bs wide start pt ix at w (drop at bs) refl none) r p
+
+-- a walk and its reader, which began as r0 and in the block of h0
+pub record Going (h0 : Header) (r0 : Reader) (w : Walk) (r : Reader) : Type 0 where
+  pub header : w.header ≡ h0
+  pub bytes : r.bytes ≡ r0.bytes
+  pub walking : Walking (fields_of w.header) r.bytes.now r0.at w.point w.index r.at
+
+pub same_walk : {h h' : Header} {bs bs' : Bor (List ℕ)} {n n' : ℕ} (o : Result (Unit {0}) FileRefusal) (ix : Index) → h ≡ h' → bs ≡ bs' → n ≡ n'
+    → Walks (fields_of h) bs.now n o ix → Walks (fields_of h') bs'.now n' o ix
+same_walk {h} {h'} {bs} {bs'} {n} {n'} o ix eh eb en x =
+    subst (λ i. Walks (fields_of h') bs'.now i o ix) en (subst (λ b. Walks (fields_of h') b.now n o ix) eb (subst (λ f. Walks (fields_of f) bs.now n o ix) eh x))
+
+-- bytes are left where a reader is not at the end
+pub some_left : (n : ℕ) → false ≡ eqb n 0 → 0 < n
+some_left n e = let m = eqb-false n 0 (sym e) in omega arith

@@ -6,13 +6,19 @@ use Rattle.blockfile.specs.declared.index.Index.{Index}
 use Rattle.blockfile.specs.declared.point.Point.TheVariants.{Between}
 use Rattle.blockfile.specs.declared.refusal.FileRefusal.{FileRefusal}
 use Rattle.blockfile.specs.Index.{indexed, Within}
+use Rattle.blockfile.specs.declared.walk.Walk.{Walk}
 use Rattle.blockfile.specs.Refusals.{told}
+use Rattle.blockfile.specs.Steps.{Held, held}
 use Rattle.blockfile.specs.Walk.{Entry, sofar, shown_in, walk}
 
 -- an answer without what it gives
 abbrev pub closed : {A : Type 0} → Result A Refused → Result (Unit {0}) Refused
 closed (Ok x) = Ok tt
 closed (Err e) = Err e
+
+-- where a walk has come to after a step that gives nothing else
+abbrev pub after_it : Walk → Unit {0} → Held
+after_it w t = held w.point w.index
 
 -- an index says of each cell what some shares say, and names only records inside the file
 pub record Says (h : Fields) (bs : List ℕ) (es : List Entry) (ix : Index) : Type 0 where

@@ -4,8 +4,8 @@ use Rattle.octets.specs.Outcome.{Refused, plain}
 use Rattle.hash.specs.Digests.{digest_len}
 use Rattle.header.specs.declared.cell.Axis.{Axis}
 use Rattle.header.specs.Fields.{Fields}
-use Rattle.header.specs.Lines.{row_at, col_at}
-use Rattle.evidence.specs.Evidence.{Evidence, axis_by}
+use Rattle.header.specs.Lines.{axis_by, row_at, col_at}
+use Rattle.evidence.specs.Evidence.{Evidence}
 use Rattle.wire.specs.Refusals.{refused_at}
 use Rattle.wire.specs.Values.{Rec, header, roots, group, share, end, claim, witness}
 use Rattle.wire.specs.Reading.{reads_at}

@@ -1,11 +1,62 @@
 // From cells to the records of a file.
+ghost use Rattle.blockfile.specs.Index.{entry_of, marked};
+ghost use Rattle.std.specs.Prelude.{◌≡◌, ◌<◌, replicate};
+ghost use Rattle.header.specs.declared.cell.Axis.TheVariants.{Row};
+
+use header::cell::Axis;
 
 // The most cells of a square.
 pub const CELLS: usize = 4096;
 
-// For each cell the place of its share record in the file, 0 where it has none, and whether it came in the group of a column.
+// A share record: the place of the file where it begins, and the axis of its group.
+#[derive(Clone, Copy)]
+pub struct Place {
+    pub at: u32,
+    pub axis: Axis,
+}
+
+// For each cell the place of its share record, 0 where it has none, and the axis of that record's group. The two arrays take 20,480
+// bytes; one of `Option<Place>` would take 49,152, and an index lies in the frame of the call that opens a file.
 #[derive(Clone, Copy)]
 pub struct Index {
-    pub at: [u32; CELLS],
-    pub column: [bool; CELLS],
+    at: [u32; CELLS],
+    axis: [Axis; CELLS],
+}
+
+const _: () = prove!(size_of::<Index>() == 20480);
+
+impl Index {
+    // No share is noted.
+    pub(crate) fn empty() -> Index
+        ensures places { result.at ≡ replicate 4096 0 }
+        ensures axes { result.axis ≡ replicate 4096 Row }
+    {
+        Index {
+            at: [0; CELLS],
+            axis: [Axis::Row; CELLS],
+        }
+    }
+
+    // The share record of a cell.
+    pub(crate) fn place(&self, cell: usize) -> Option<Place>
+        requires { cell < 4096 }
+        ensures { result ≡ entry_of self.now cell }
+    {
+        if self.at[cell] == 0 {
+            return None;
+        }
+        Some(Place {
+            at: self.at[cell],
+            axis: self.axis[cell],
+        })
+    }
+
+    // Notes the share record of a cell.
+    pub(crate) fn note(&mut self, cell: usize, place: Place)
+        requires { cell < 4096 }
+        ensures { self.new ≡ marked self.old cell place.at place.axis }
+    {
+        self.at[cell] = place.at;
+        self.axis[cell] = place.axis;
+    }
 }

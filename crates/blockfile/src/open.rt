@@ -1,6 +1,6 @@
 // Opening a block file.
-ghost use Rattle.std.specs.Prelude.{◌≡◌, ◌+◌, ◌<◌, ◌≤◌, length, drop, Err, MatchResult};
-ghost use Rattle.blockfile.specs.File.{HeadRead, Means, Opens, RootsAre, nothing, roots_place};
+ghost use Rattle.std.specs.Prelude.{◌≡◌, ◌+◌, ◌<◌, ◌≤◌, length, drop, Err, MatchResult, OnOk};
+ghost use Rattle.blockfile.specs.File.{HeadRead, Means, Opens, RootsAre, groups_place, nothing, roots_place};
 ghost use Rattle.blockfile.specs.Opening.{closed};
 ghost use Rattle.blockfile.specs.Refusals.{told};
 ghost use Rattle.blockfile.specs.Walk.{file_limit, file_outcome, no_block};
@@ -11,42 +11,28 @@ ghost use Rattle.wire.specs.declared.due.Due.TheVariants.{Roots};
 
 use crate::file::BlockFile;
 use crate::index::Index;
-use crate::refusal::FileRefusal;
-use crate::walk::walk;
-use hash::limits::DIGEST_LEN;
+use crate::refusal::{FileRefusal, refused};
+use crate::walk::Walk;
 use header::header::Header;
 use header::make::make_header;
 use wire::due::Due;
-use wire::read::read_at;
+use wire::reader::Reader;
 use wire::record::Record;
+use wire::refusal::Fault;
 
 // The most bytes of a block file.
 pub const FILE_LIMIT: usize = 4194304;
 
-// The bytes of a header record.
-const ROOTS_PLACE: usize = 44;
-
-// Before its header record is read, nothing is known of a block.
-fn no_block() -> Header
-    ensures { fields_of result ≡ no_block }
+// Reads the header record in front of a file. Before it is read nothing is known of a block, and a header record is read alike in every
+// block.
+fn read_header(reader: &mut Reader) -> Result<Header, FileRefusal>
+    requires { reader.old.at ≡ 0 }
+    ensures read { HeadRead reader.old.bytes.now result }
+    ensures behind { OnOk result (reader.new.at ≡ roots_place) }
+    ensures same { reader.new.bytes ≡ reader.old.bytes }
 {
-    Header {
-        k: 1,
-        s: 1,
-        hash_kind: 0,
-        code_kind: 0,
-        data_root: [0; DIGEST_LEN],
-    }
-}
-
-// Reads the header record in front of a file.
-fn read_header(bytes: &[u8]) -> Result<Header, FileRefusal>
-    ensures { HeadRead bytes.now result }
-{
-    let (item, _) = match read_at(&no_block(), Due::Header, 0, bytes) {
-        Ok(read) => read,
-        Err(e) => return Err(FileRefusal::Read(e)),
-    };
+    let at = reader.place();
+    let item = reader.read(&Header::smallest(), Due::Header)?;
     let Record::Header {
         k,
         s,
@@ -55,25 +41,25 @@ fn read_header(bytes: &[u8]) -> Result<Header, FileRefusal>
         data_root,
     } = item
     else {
-        unreachable()
+        return Err(refused(Fault::NotDue, at));
     };
     match make_header(k as usize, s as usize, hash_kind, code_kind, data_root) {
-        Ok(h) => Ok(h),
-        Err(_) => unreachable(),
+        Ok(header) => Ok(header),
+        Err(_) => Err(refused(Fault::NotDue, at)),
     }
 }
 
 // Reads the roots record behind the header record.
-fn read_roots<'a>(h: &Header, bytes: &'a [u8]) -> Result<&'a [u8], FileRefusal>
-    requires { roots_place ≤ length bytes.now }
-    ensures { MatchResult result (λ rs. RootsAre (fields_of h.now) bytes.now rs.now) (λ e. reads_at (fields_of h.now) Roots roots_place (drop roots_place bytes.now) ≡ Err (told e)) }
+fn read_roots<'a>(h: &Header, reader: &mut Reader<'a>) -> Result<&'a [u8], FileRefusal>
+    requires { reader.old.at ≡ roots_place }
+    ensures read { MatchResult result (λ rs. RootsAre (fields_of h.now) reader.old.bytes.now rs.now) (λ e. reads_at (fields_of h.now) Roots roots_place (drop roots_place reader.old.bytes.now) ≡ Err (told e)) }
+    ensures behind { OnOk result (reader.new.at ≡ groups_place (fields_of h.now)) }
+    ensures same { reader.new.bytes ≡ reader.old.bytes }
 {
-    let (item, _) = match read_at(h, Due::Roots, ROOTS_PLACE, &bytes[ROOTS_PLACE..]) {
-        Ok(read) => read,
-        Err(e) => return Err(FileRefusal::Read(e)),
-    };
+    let at = reader.place();
+    let item = reader.read(h, Due::Roots)?;
     let Record::Roots(roots) = item else {
-        unreachable()
+        return Err(refused(Fault::NotDue, at));
     };
     Ok(roots)
 }
@@ -84,7 +70,7 @@ impl<'a> BlockFile<'a> {
         ensures { Means result nothing }
     {
         BlockFile {
-            header: no_block(),
+            header: Header::smallest(),
             roots: &[],
             bytes: &[],
             index: Index::empty(),
@@ -100,14 +86,14 @@ pub fn open_file<'a>(file: &mut BlockFile<'a>, bytes: &'a [u8]) -> Result<(), Fi
     if bytes.len() > FILE_LIMIT {
         return Err(FileRefusal::TooLong);
     }
-    let header = read_header(bytes)?;
-    let roots = read_roots(&header, bytes)?;
-    let mut index = Index::empty();
-    let start = ROOTS_PLACE + 6 + header.lengths().roots;
-    walk(&header, bytes, start, &mut index)?;
+    let mut reader = Reader::new(bytes);
+    let header = read_header(&mut reader)?;
+    let roots = read_roots(&header, &mut reader)?;
+    let mut walk = Walk::new(header);
+    walk.run(reader)?;
     file.header = header;
     file.roots = roots;
     file.bytes = bytes;
-    file.index = index;
+    file.index = walk.index;
     Ok(())
 }

@@ -1,28 +1,35 @@
 // Why a block file is refused.
-use std::error::Error;
-use std::fmt;
-use wire::refusal::ReadRefusal;
+ghost use Rattle.blockfile.specs.Refusals.{told};
+ghost use Rattle.blockfile.specs.declared.refusal.FileRefusal.TheVariants.{Read};
+ghost use Rattle.wire.specs.Refusals.{fault_number, refused_at};
+ghost use Rattle.std.specs.Prelude.{◌≡◌};
 
-#[derive(Clone, Copy, PartialEq, Eq, Debug)]
+use thiserror::Error;
+use wire::refusal::{Fault, ReadRefusal};
+
+#[derive(Clone, Copy, PartialEq, Eq, Debug, Error)]
 pub enum FileRefusal {
     // The file has over 4,194,304 bytes.
+    #[error("the file has over 4194304 bytes")]
     TooLong,
+    #[error(transparent)]
     Read(ReadRefusal),
     // The share record at this place is for a cell that an earlier one was for.
+    #[error("at byte {at}: the file has a share of this cell already")]
     SeenTwice { at: usize },
 }
 
-impl fmt::Display for FileRefusal {
-    fn fmt<W: fmt::Write>(&self, f: &mut fmt::Formatter<W>) -> fmt::Result {
-        match self {
-            FileRefusal::TooLong => write!(f, "the file has over 4194304 bytes"),
-            FileRefusal::Read(e) => write!(f, "{e}"),
-            FileRefusal::SeenTwice { at } => write!(
-                f,
-                "at byte {at}: the file has a share of this cell already"
-            ),
-        }
+impl From<ReadRefusal> for FileRefusal {
+    ghost from_gives = { λ e refusal. refusal ≡ Read e };
+
+    fn from(e: ReadRefusal) -> FileRefusal {
+        FileRefusal::Read(e)
     }
 }
 
-impl Error for FileRefusal {}
+// A fault of the record at this place.
+pub(crate) fn refused(fault: Fault, at: usize) -> FileRefusal
+    ensures { told result ≡ refused_at (fault_number fault) at }
+{
+    FileRefusal::Read(ReadRefusal { fault, at })
+}

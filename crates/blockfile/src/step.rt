@@ -1,128 +1,122 @@
-// What one record of a file does.
-ghost use Rattle.std.specs.Prelude.{◌≡◌, ◌+◌, ◌*◌, ◌^◌, ◌<◌, true, if◌then◌else◌, ◌==◌, nat_eq, slice_index};
+// What the records of a file do.
+ghost use Rattle.std.specs.Prelude.{◌≡◌, ◌<◌, ◌≤◌, true, [], length, replicate, Ok};
+ghost use Rattle.blockfile.specs.Opening.{Walks, after_it, closed};
 ghost use Rattle.blockfile.specs.Refusals.{told};
-ghost use Rattle.blockfile.specs.Steps.{LineLow, beside, go, go_between, go_inside, is_column, marked, noting};
-ghost use Rattle.blockfile.specs.declared.point.Point.TheVariants.{Inside};
-ghost use Rattle.octets.specs.Outcome.{outcome_by};
+ghost use Rattle.blockfile.specs.Steps.{go, held, noting};
+ghost use Rattle.blockfile.specs.Walk.{file_limit, finish_by};
+ghost use Rattle.blockfile.specs.declared.point.Point.TheVariants.{Between, Inside};
+ghost use Rattle.octets.specs.Outcome.{outcome, outcome_by};
 ghost use Rattle.header.specs.Fields.{fields_of};
-ghost use Rattle.header.specs.Lines.{col_at, row_at};
+ghost use Rattle.header.specs.Lines.{axis_by, col_at, row_at};
 ghost use Rattle.header.specs.Sizes.{cell_number, width};
+ghost use Rattle.header.specs.declared.cell.Axis.TheVariants.{Row};
 ghost use Rattle.wire.specs.Parts.{value_of};
-ghost use Rattle.wire.specs.Refusals.{refused_at};
 ghost use Rattle.wire.specs.Reading.{in_range};
 
-use crate::index::Index;
+use crate::index::{Index, Place};
 use crate::point::Point;
-use crate::refusal::FileRefusal;
+use crate::refusal::{FileRefusal, refused};
+use crate::walk::Walk;
 use header::cell::{Axis, Cell};
 use header::header::Header;
+use wire::reader::Reader;
 use wire::record::Record;
-use wire::refusal::{Fault, ReadRefusal};
+use wire::refusal::Fault;
 
-// Notes the share record of a cell; where the cell has one, it answers false and notes nothing.
-fn note(index: &mut Index, cell: usize, at: u32, column: bool) -> bool
-    requires { cell < 4096 }
-    ensures answer { result ≡ (slice_index index.old.at cell == 0) }
-    ensures after { index.new ≡ (if nat_eq (slice_index index.old.at cell) 0 then marked index.old cell at column else index.old) }
-{
-    if index.at[cell] != 0 {
-        return false;
+impl Walk {
+    // Before the first group.
+    pub(crate) fn new(header: Header) -> Walk
+        ensures header { result.header ≡ header }
+        ensures point { result.point ≡ Between }
+        ensures places { result.index.at ≡ replicate 4096 0 }
+        ensures axes { result.index.axis ≡ replicate 4096 Row }
+    {
+        Walk {
+            header,
+            point: Point::Between,
+            index: Index::empty(),
+        }
     }
-    index.at[cell] = at;
-    index.column[cell] = column;
-    true
-}
 
-// A record of another kind than is due: the reader hands out none.
-fn not_due(at: u32) -> FileRefusal
-    ensures { told result ≡ refused_at 10 at }
-{
-    FileRefusal::Read(ReadRefusal {
-        fault: Fault::NotDue,
-        at: at as usize,
-    })
-}
-
-fn is_column(axis: Axis) -> bool
-    ensures { result ≡ is_column axis }
-{
-    match axis {
-        Axis::Row => false,
-        Axis::Column => true,
+    // Enters the group of a line.
+    fn enter(&mut self, axis: u8, index: u16, at: usize) -> Result<(), FileRefusal>
+        requires { (axis ≤ 1) × (index < width (fields_of self.old.header)) }
+        ensures answer { outcome_by (after_it self.new) told result ≡ Ok (held (Inside (axis_by axis) index) self.old.index) }
+        ensures same { self.new.header ≡ self.old.header }
+    {
+        let Ok(axis) = Axis::try_from(axis) else {
+            return Err(refused(Fault::OutOfRange, at));
+        };
+        self.point = Point::Inside { axis, index };
+        Ok(())
     }
-}
 
-// The number of the cell at a place of a line.
-fn number_on(h: &Header, axis: Axis, line: u16, place: u16) -> usize
-    requires { (line < width (fields_of h.now)) × (place < width (fields_of h.now)) }
-    ensures value { result ≡ cell_number (fields_of h.now) (row_at axis line place) (col_at axis line place) }
-    ensures small { result < 4096 }
-{
-    let cell = Cell::on_line(axis, line, place);
-    cell.row as usize * (2 * h.k as usize) + cell.col as usize
-}
-
-// Notes the share at a place of the line of a group.
-fn step_share(
-    h: &Header,
-    axis: Axis,
-    line: u16,
-    place: u16,
-    at: u32,
-    index: &mut Index,
-) -> Result<Point, FileRefusal>
-    requires { (line < width (fields_of h.now)) × (place < width (fields_of h.now)) }
-    ensures answer { outcome_by (beside index.new) told result ≡ noting (Inside axis line) index.old (cell_number (fields_of h.now) (row_at axis line place) (col_at axis line place)) at (is_column axis) }
-{
-    if !note(index, number_on(h, axis, line, place), at, is_column(axis)) {
-        return Err(FileRefusal::SeenTwice { at: at as usize });
+    // Notes the share at a place of the line of a group.
+    fn note(&mut self, axis: Axis, index: u16, place: u16, at: usize) -> Result<(), FileRefusal>
+        requires { (index < width (fields_of self.old.header)) × ((place < width (fields_of self.old.header)) × (at ≤ file_limit)) }
+        ensures answer { outcome_by (after_it self.new) told result ≡ noting self.old.point self.old.index (cell_number (fields_of self.old.header) (row_at axis index place) (col_at axis index place)) at axis }
+        ensures same { self.new.header ≡ self.old.header }
+    {
+        let cell = Cell::on_line(axis, index, place);
+        let Some(number) = self.header.cell_number(cell) else {
+            return Err(refused(Fault::OutOfRange, at));
+        };
+        if self.index.place(number).is_some() {
+            return Err(FileRefusal::SeenTwice { at });
+        }
+        self.index.note(
+            number,
+            Place {
+                at: at as u32,
+                axis,
+            },
+        );
+        Ok(())
     }
-    Ok(Point::Inside { axis, index: line })
-}
 
-fn step_between(item: &Record, at: u32, index: &Index) -> Result<Point, FileRefusal>
-    ensures { outcome_by (beside index.now) told result ≡ go_between index.now at (value_of item.now) }
-{
-    match *item {
-        Record::Group { axis, index } => Ok(Point::Inside {
-            axis: if axis == 0 { Axis::Row } else { Axis::Column },
-            index,
-        }),
-        _ => Err(not_due(at)),
+    // What the record at a place of the file does; a refusal may leave the walk as it is.
+    fn step(&mut self, item: &Record, at: usize) -> Result<(), FileRefusal>
+        requires { (in_range (fields_of self.old.header) (value_of item.now) ≡ true) × (at ≤ file_limit) }
+        ensures answer { outcome_by (after_it self.new) told result ≡ go (fields_of self.old.header) self.old.point self.old.index at (value_of item.now) }
+        ensures same { self.new.header ≡ self.old.header }
+    {
+        match self.point {
+            Point::Between => match *item {
+                Record::Group { axis, index } => self.enter(axis, index, at),
+                _ => Err(refused(Fault::NotDue, at)),
+            },
+            Point::Inside { axis, index } => match *item {
+                Record::Share { place, .. } => self.note(axis, index, place, at),
+                Record::GroupEnd => {
+                    self.point = Point::Between;
+                    Ok(())
+                }
+                _ => Err(refused(Fault::NotDue, at)),
+            },
+        }
     }
-}
 
-fn step_inside(
-    h: &Header,
-    axis: Axis,
-    line: u16,
-    item: &Record,
-    at: u32,
-    index: &mut Index,
-) -> Result<Point, FileRefusal>
-    requires { (line < width (fields_of h.now)) × (in_range (fields_of h.now) (value_of item.now) ≡ true) }
-    ensures answer { outcome_by (beside index.new) told result ≡ go_inside (fields_of h.now) axis line index.old at (value_of item.now) }
-{
-    match *item {
-        Record::Share { place, .. } => step_share(h, axis, line, place, at, index),
-        Record::GroupEnd => Ok(Point::Between),
-        _ => Err(not_due(at)),
+    // Whether the bytes may end at a place.
+    fn finish(&self, at: usize) -> Result<(), FileRefusal>
+        ensures { outcome told result ≡ closed (finish_by self.now.point [] at) }
+    {
+        match self.point {
+            Point::Between => Ok(()),
+            Point::Inside { .. } => Err(refused(Fault::NotDue, at)),
+        }
     }
-}
 
-// What the record at a place of the file does at a point of the walk; a refusal may leave the index as it is.
-pub(crate) fn step(
-    h: &Header,
-    point: Point,
-    item: &Record,
-    at: u32,
-    index: &mut Index,
-) -> Result<Point, FileRefusal>
-    requires { (LineLow (fields_of h.now) point) × (in_range (fields_of h.now) (value_of item.now) ≡ true) }
-    ensures answer { outcome_by (beside index.new) told result ≡ go (fields_of h.now) point index.old at (value_of item.now) }
-{
-    match point {
-        Point::Between => step_between(item, at, index),
-        Point::Inside { axis, index: line } => step_inside(h, axis, line, item, at, index),
+    // Notes the shares of all groups, to the first of which a reader of the file has come.
+    pub(crate) fn run(&mut self, mut reader: Reader) -> Result<(), FileRefusal>
+        requires file { (0 < reader.at) × (length reader.bytes.now ≤ file_limit) }
+        requires fresh { (self.old.point ≡ Between) × ((self.old.index.at ≡ replicate 4096 0) × (self.old.index.axis ≡ replicate 4096 Row)) }
+        ensures { Walks (fields_of self.old.header) reader.entry.bytes.now reader.entry.at result self.new.index }
+    {
+        while !reader.is_at_end() {
+            let at = reader.place();
+            let item = reader.read(&self.header, self.point.due())?;
+            self.step(&item, at)?;
+        }
+        self.finish(reader.place())
     }
 }

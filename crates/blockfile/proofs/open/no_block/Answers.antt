@@ -1,7 +1,0 @@
-use Rattle.std.proofs.Common.{refl}
-use Rattle.erasure.specs.Limits.{ok_width, ok_size}
-use Rattle.blockfile.proofs.open.no_block.Goals as goal
-
-pub invariant_of-result : goal.invariant_of-result
-unfolding ok_width ok_size
-invariant_of-result c = record { width = refl; size = refl }
