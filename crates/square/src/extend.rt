@@ -18,14 +18,6 @@ use header::header::Header;
 use header::make::make_header;
 use header::refusal::SquareRefusal;
 
-// Whether data, square and roots of these lengths are the block's.
-fn lengths_fit(h: &Header, shares: usize, square: usize, roots: usize) -> bool
-    ensures { result ≡ extend_fits (fields_of h.now) shares square roots }
-{
-    let n = h.lengths();
-    shares == n.data && (square == n.square && roots == n.roots)
-}
-
 // Extends k by k shares to a square of 2k by 2k: rows 0 to k - 1 first, then all columns. Writes the square and the roots of its lines,
 // and gives its header.
 pub fn extend<H: Hash, C: Code>(
@@ -41,7 +33,8 @@ pub fn extend<H: Hash, C: Code>(
     ensures stands { ExtendStands H.Hash.meaning C.Code.table (blank k s H.Hash.kind C.Code.kind) shares.now }
 {
     let h = make_header(k, s, H::kind_byte(), C::kind_byte(), &[0u8; DIGEST_LEN])?;
-    if !lengths_fit(&h, shares.len(), square.len(), roots.len()) {
+    let n = h.lengths();
+    if shares.len() != n.data || square.len() != n.square || roots.len() != n.roots {
         return Err(SquareRefusal::WrongLength);
     }
     let _ = fill::<C>(k, s, shares, square);

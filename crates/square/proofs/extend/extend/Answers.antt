@@ -1,8 +1,8 @@
-use Rattle.std.proofs.Common.{◌≡◌, true, eqb, length, replicate, sym, ap, ◌∙◌, arith, rules}
-use Rattle.std.proofs.lemmas.Bool.{and_parts, cond-true}
+use Rattle.std.proofs.Common.{◌≡◌, true, eqb, length, replicate, sym, ap, ◌∙◌, arith}
+use Rattle.std.proofs.lemmas.Bool.{and_from, and_parts, cond-true, eq-eqb}
 use Rattle.octets.specs.Written.{written}
 use Rattle.header.specs.Fields.{fields_of}
-use Rattle.header.specs.Sizes.{data_len}
+use Rattle.header.specs.Sizes.{data_len, square_len, roots_len}
 use Rattle.header.proofs.Made.{made}
 use Rattle.extension.specs.Square.{extension, fill_fits}
 use Rattle.commitment.specs.Roots.{roots_of, square_fits}
@@ -12,25 +12,15 @@ use Rattle.square.proofs.Laws.{stand}
 use Rattle.square.proofs.Outcomes.{extend_granted, commit_granted, fill_granted}
 use Rattle.square.proofs.extend.extend.Goals as goal
 
-pub returns-in_err-h : goal.returns-in_err-h
-returns-in_err-h g c = record {
-  answer = search rules;
-  square = search rules;
-  roots = search rules;
-  stands = λ w z l.
-      let b = blank c.args.k c.args.s g.H.Hash.kind g.C.Code.kind in
-      stand g.H.Hash.meaning g.met.H.Hash.sized b w g.C.Code.table g.met.C.Code.first g.met.C.Code.second c.args.shares.now (λ n. omega (arith, c.type_inv.shares n)) z l;
-}
+pub returns-in_err-h-clause-stands : goal.returns-in_err-h-clause-stands
+returns-in_err-h-clause-stands g c w z l =
+    let b = blank c.args.k c.args.s g.H.Hash.kind g.C.Code.kind in
+    stand g.H.Hash.meaning g.met.H.Hash.sized b w g.C.Code.table g.met.C.Code.first g.met.C.Code.second c.args.shares.now (λ n. omega (arith, c.type_inv.shares n)) z l
 
-pub returns-then-not-lengths_fit : goal.returns-then-not-lengths_fit
-returns-then-not-lengths_fit g c = record {
-  answer = search rules;
-  square = search rules;
-  roots = search rules;
-  stands = λ w z l.
-      let b = blank c.args.k c.args.s g.H.Hash.kind g.C.Code.kind in
-      stand g.H.Hash.meaning g.met.H.Hash.sized b w g.C.Code.table g.met.C.Code.first g.met.C.Code.second c.args.shares.now (λ n. omega (arith, c.type_inv.shares n)) z l;
-}
+pub returns-then-shares-n-clause-stands : goal.returns-then-shares-n-clause-stands
+returns-then-shares-n-clause-stands g c w z l =
+    let b = blank c.args.k c.args.s g.H.Hash.kind g.C.Code.kind in
+    stand g.H.Hash.meaning g.met.H.Hash.sized b w g.C.Code.table g.met.C.Code.first g.met.C.Code.second c.args.shares.now (λ n. omega (arith, c.type_inv.shares n)) z l
 
 pub returns : goal.returns
 returns g c =
@@ -42,7 +32,12 @@ returns g c =
     let m = length c.args.roots.now in
     let ext = extension T c.args.k c.args.s d in
     let h = made (record { k = c.args.k; s = c.args.s; hash_kind = c.kind_byte.result; code_kind = c.kind_byte-2.result; data_root = replicate 32 0 }) (fields_of c.in_ok-h.h) c.in_ok-h.ensures in
-    let fits : extend_fits b (length d) n m ≡ true = sym (c.if-not-lengths_fit.ensures ∙ ap (λ x. extend_fits x (length d) n m) h.same) in
+    let of = fields_of c.in_ok-h.h in
+    let e = c.lengths-n.ensures in
+    let measured : extend_fits of (length d) n m ≡ true =
+    and_from _ _ (eq-eqb (length d) (data_len of) (omega (arith, ap (λ l. l.«data») e)))
+    (and_from _ _ (eq-eqb n (square_len of) (omega (arith, ap (λ l. l.square) e))) (eq-eqb m (roots_len of) (omega (arith, ap (λ l. l.roots) e)))) in
+    let fits : extend_fits b (length d) n m ≡ true = sym (ap (λ x. extend_fits x (length d) n m) h.same) ∙ measured in
     let sq-is : c.fill.new.square ≡ ext = c.fill.ensures.filled ∙ cond-true (fill_fits c.args.k c.args.s (length d) n) _ _ (fill_granted f b h.wide h.sized (length d) n m fits) in
     let room : square_fits b (length ext) m ≡ true =
     ap (λ x. square_fits b x m) (sym (ap length sq-is) ∙ c.fill.auto.square) ∙ (and_parts (eqb (length d) (data_len b)) (square_fits b n m) fits).1 in
