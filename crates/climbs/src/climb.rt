@@ -2,8 +2,7 @@
 ghost use Rattle.std.specs.Prelude.{length, cond, true, false, MatchResult, ◌≡◌};
 ghost use Rattle.std.specs.Result.{is_ok};
 ghost use Rattle.climbs.specs.Answers.{climb_leaf_fits, climb_node_fits, is_path};
-ghost use Rattle.merkle.specs.Climb.{climb, climb_leaf, climb_node, levels, plain_rule, rungs, slots};
-ghost use Rattle.merkle.specs.Tree.{sides};
+ghost use Rattle.merkle.specs.Climb.{climb, climb_leaf, climb_node, levels, past, plain_rule, slots};
 
 use crate::node::{leaf, parent};
 use hash::digest::Hash;
@@ -27,7 +26,7 @@ fn climb_up<H: Hash>(
     mut place: usize,
     siblings: &[[u8; DIGEST_LEN]],
 ) -> [u8; DIGEST_LEN]
-    ensures { result ≡ climb plain_rule H.meaning (rungs (sides (length siblings.now) place) siblings.now) node }
+    ensures { result ≡ climb plain_rule H.meaning (past place siblings.now) node }
 {
     for sibling in siblings {
         node = parent::<H>(&node, place, sibling);

@@ -1,7 +1,6 @@
 -- What a search finds is a collision in hand, and a search in two parts is one search.
-use Rattle.std.proofs.Common.{◌≡◌, ℕ, ◌-◌, ◌*◌, ◌/◌, ◌≤◌, true, false, List, ◌∷◌, ◌++◌, length, take, drop, is_some, Some, None, Option, sym, refl, ap, ◌∙◌, subst, arith}
+use Rattle.std.proofs.Common.{◌≡◌, ℕ, ◌-◌, ◌*◌, ◌/◌, ◌≤◌, List, ◌∷◌, ◌++◌, length, take, drop, Some, None, Option, sym, refl, ap, ◌∙◌, subst, arith}
 use Rattle.std.proofs.lemmas.List.{take_at, length-take-le, length-drop}
-use Rattle.std.proofs.lemmas.Bool.{true≢false, false≢true}
 use Rattle.hash.specs.Digests.{digest_len}
 use Rattle.merkle.specs.Tree.{sides}
 use Rattle.merkle.specs.Climb.{Rung, alone, plain_rule, climb, levels, rungs, from_node, from_leaf, through_two}
@@ -10,7 +9,7 @@ use Rattle.merkle.proofs.Bound.{plain_binds, first_is, alike_slots, none_some}
 use Rattle.merkle.proofs.Climbing.{climb_append, from_leaf_length}
 use Rattle.merkle.proofs.Even.{Even, even}
 use Rattle.merkle.proofs.Steps.{first_in_parts, slots_take}
-use Rattle.collisions.specs.Finding.{found_len, put_one, put_other, put_end, InHand, Finds, Ends}
+use Rattle.collisions.specs.Finding.{at_front, found_len, put_one, put_other, put_end, InHand, Finds, Ends}
 
 some_is : (m n : ℕ) → ◌≡◌ {A = Option ℕ} (Some m) (Some n) → m ≡ n
 some_is m n e = cc
@@ -43,49 +42,42 @@ finds f sized rs qs v w r x y x' y' alike long er ex ey =
       meets = λ ne e. let s = plain_binds f sized v w rs qs tt tt alike ne e in (length s.0.one, er ∙ ap found_len s.1);
     }
 
-no_two : (r : Option ℕ) (o : Option Two) → r ≡ found_len o → is_some r ≡ false → o ≡ None
-no_two r None e h = refl
-no_two r (Some t) e h = absurd (true≢false (ap is_some (sym e) ∙ h))
+-- ---- from two leaf values at one place, by two whole paths of one length
 
--- ---- from two leaf values at one place, by two whole paths of one length; `search` goes up the levels of the first
+module _ (f : List ℕ → List ℕ) (p : ℕ) (pa pb v w : List ℕ) (paths : length pa ≡ length pb) (sized : (m : List ℕ) → length (f m) ≡ digest_len) (values : length v ≡ length w) where
+  alike : Alike Digest (from_node (levels pa) p pa) (from_node (levels pb) p pb)
+  alike =
+      subst (λ k. Alike Digest (from_node (levels pa) p pa) (from_node k p pb)) (ap (λ n. n / digest_len) paths)
+      (alike_slots (levels pa) p pa pb (omega arith) (omega arith))
 
-module _ (f : List ℕ → List ℕ) (p : ℕ) (pa pb v w : List ℕ) (paths : length pa ≡ length pb) where
-  same_levels : levels pa ≡ levels pb
-  same_levels = ap (λ n. n / digest_len) paths
+  pub leaves_some : (t : Two) (n : ℕ) (x y x' y' : List ℕ) → found f (from_leaf (levels pa) p pa) (from_leaf (levels pb) p pb) v w ≡ Some t → n ≡ length t.one
+      → x' ≡ at_front t.one x → y' ≡ at_front t.other y → Finds f (from_leaf (levels pa) p pa) (from_leaf (levels pb) p pb) v w (Some n) x y x' y'
+  leaves_some t n x y x' y' is en ex ey =
+      finds f sized (from_node (levels pa) p pa) (from_node (levels pb) p pb) v w (Some n) x y x' y' alike values
+      (ap (λ k. Some k) en ∙ ap found_len (sym is)) (ex ∙ ap (λ o. put_one o x) (sym is)) (ey ∙ ap (λ o. put_other o y) (sym is))
 
-  pub leaves_find : ((m : List ℕ) → length (f m) ≡ digest_len) → (r : Option ℕ) (x y x' y' : List ℕ) → length v ≡ length w
-      → r ≡ found_len (found f (from_leaf (levels pa) p pa) (from_leaf (levels pa) p pb) v w)
-      → x' ≡ put_one (found f (from_leaf (levels pa) p pa) (from_leaf (levels pa) p pb) v w) x
-      → y' ≡ put_other (found f (from_leaf (levels pa) p pa) (from_leaf (levels pa) p pb) v w) y
-      → Finds f (from_leaf (levels pa) p pa) (from_leaf (levels pb) p pb) v w r x y x' y'
-  leaves_find sized r x y x' y' long er ex ey =
-      subst (λ k. Finds f (from_leaf (levels pa) p pa) (from_leaf k p pb) v w r x y x' y') same_levels
-      (finds f sized (from_node (levels pa) p pa) (from_node (levels pa) p pb) v w r x y x' y' (alike_slots (levels pa) p pa pb (omega arith) (omega arith)) long er ex ey)
+  pub leaves_none : (x y : List ℕ) → found f (from_leaf (levels pa) p pa) (from_leaf (levels pb) p pb) v w ≡ None
+      → Finds f (from_leaf (levels pa) p pa) (from_leaf (levels pb) p pb) v w None x y x y
+  leaves_none x y is =
+      finds f sized (from_node (levels pa) p pa) (from_node (levels pb) p pb) v w None x y x y alike values
+      (ap found_len (sym is)) (ap (λ o. put_one o x) (sym is)) (ap (λ o. put_other o y) (sym is))
 
-  pub ends_none : (r : Option ℕ) (a b a' b' : List ℕ) → r ≡ found_len (found f (from_leaf (levels pa) p pa) (from_leaf (levels pa) p pb) v w) → is_some r ≡ false
-      → a' ≡ climb plain_rule f (from_leaf (levels pa) p pa) v → b' ≡ climb plain_rule f (from_leaf (levels pa) p pb) w
-      → Ends f (from_leaf (levels pa) p pa) (from_leaf (levels pb) p pb) v w a b a' b'
-  ends_none r a b a' b' er h ea eb =
-      let none = no_two r _ er h in
-      subst (λ k. Ends f (from_leaf (levels pa) p pa) (from_leaf k p pb) v w a b a' b') same_levels
-      (record {
-        one = ea ∙ ap (λ o. put_end o (climb plain_rule f (from_leaf (levels pa) p pa) v) a) (sym none);
-        other = eb ∙ ap (λ o. put_end o (climb plain_rule f (from_leaf (levels pa) p pb) w) b) (sym none);
-      })
+-- ---- the buffers of the ends, where something was found, and where nothing was
+module _ (f : List ℕ → List ℕ) (rs qs : List Rung) (v w : List ℕ) where
+  kept : (n : ℕ) (o : Option Two) (e a : List ℕ) → ◌≡◌ {A = Option ℕ} (Some n) (found_len o) → a ≡ put_end o e a
+  kept n None e a h = absurd (none_some n (sym h))
+  kept n (Some t) e a h = refl
 
-  kept : (r : Option ℕ) (o : Option Two) (e a : List ℕ) → r ≡ found_len o → is_some r ≡ true → a ≡ put_end o e a
-  kept r None e a er h = absurd (false≢true (ap is_some (sym er) ∙ h))
-  kept r (Some t) e a er h = refl
+  pub ends_some : (n : ℕ) (a b : List ℕ) → ◌≡◌ {A = Option ℕ} (Some n) (found_len (found f rs qs v w)) → Ends f rs qs v w a b a b
+  ends_some n a b h = record { one = kept n _ _ a h; other = kept n _ _ b h }
 
-  pub ends_some : (r : Option ℕ) (a b : List ℕ) → r ≡ found_len (found f (from_leaf (levels pa) p pa) (from_leaf (levels pa) p pb) v w) → is_some r ≡ true
-      → Ends f (from_leaf (levels pa) p pa) (from_leaf (levels pb) p pb) v w a b a b
-  ends_some r a b er h =
-      subst (λ k. Ends f (from_leaf (levels pa) p pa) (from_leaf k p pb) v w a b a b) same_levels
-      (record { one = kept r _ _ a er h; other = kept r _ _ b er h })
+  reached : (o : Option Two) (e a : List ℕ) → ◌≡◌ {A = Option ℕ} None (found_len o) → e ≡ put_end o e a
+  reached None e a h = refl
+  reached (Some t) e a h = absurd (none_some (length t.one) h)
 
-pub is_none : (r : Option ℕ) → is_some r ≡ false → r ≡ None
-is_none None h = refl
-is_none (Some n) h = absurd (true≢false h)
+  pub ends_none : (a b a' b' : List ℕ) → ◌≡◌ {A = Option ℕ} None (found_len (found f rs qs v w)) → a' ≡ climb plain_rule f rs v → b' ≡ climb plain_rule f qs w
+      → Ends f rs qs v w a b a' b'
+  ends_none a b a' b' h ea eb = record { one = ea ∙ reached _ _ a h; other = eb ∙ reached _ _ b h }
 
 -- ---- two parts
 
@@ -135,13 +127,6 @@ module _ (f : List ℕ → List ℕ) (rs rs' qs qs' : List Rung) (v w : List ℕ
 -- ---- chained searches
 
 module _ (f : List ℕ → List ℕ) (rs qs : List Rung) (v w : List ℕ) where
-  -- where nothing was found, the ends are written
-  pub ends_are : (r : Option ℕ) (x y x' y' a b a' b' : List ℕ) → Finds f rs qs v w r x y x' y' → Ends f rs qs v w a b a' b' → is_some r ≡ false
-      → (a' ≡ climb plain_rule f rs v) × (b' ≡ climb plain_rule f qs w)
-  ends_are r x y x' y' a b a' b' s e h =
-      let none : found f rs qs v w ≡ None = no_two r _ s.answer h in
-      (e.one ∙ ap (λ o. put_end o (climb plain_rule f rs v) a) none, e.other ∙ ap (λ o. put_end o (climb plain_rule f qs w) b) none)
-
   -- the same search, said otherwise
   pub finds_at : (rs' qs' : List Rung) (v' w' : List ℕ) (r : Option ℕ) (x y x' y' : List ℕ) → rs ≡ rs' → qs ≡ qs' → v ≡ v' → w ≡ w'
       → Finds f rs qs v w r x y x' y' → Finds f rs' qs' v' w' r x y x' y'
@@ -164,34 +149,31 @@ high_rungs d q path =
     let k : levels (drop (digest_len * d) path) ≡ levels path - d = omega arith in
     ap (λ m. from_leaf m q (drop (digest_len * d) path)) k
 
-module _ (f : List ℕ → List ℕ) (d p q : ℕ) (pa pb v w : List ℕ) (in-a : d ≤ levels pa) (in_b : d ≤ levels pb) (r : Option ℕ) (x y x₁ y₁ : List ℕ)
-    (low : Finds f (from_leaf (levels (take (digest_len * d) pa)) p (take (digest_len * d) pa)) (from_leaf (levels (take (digest_len * d) pb)) p (take (digest_len * d) pb)) v w r x y x₁ y₁) where
-  low_at : Finds f (from_leaf d p pa) (from_leaf d p pb) v w r x y x₁ y₁
-  low_at = finds_at f _ _ v w (from_leaf d p pa) (from_leaf d p pb) v w r x y x₁ y₁ (low_rungs d p pa in-a) (low_rungs d p pb in_b) refl refl low
+module _ (f : List ℕ → List ℕ) (d p q : ℕ) (pa pb v w : List ℕ) (in-a : d ≤ levels pa) (in_b : d ≤ levels pb) (x y x₁ y₁ : List ℕ) where
+  -- a search of the first tree
+  abbrev Low : Option ℕ → Type 0
+  Low r = Finds f (from_leaf (levels (take (digest_len * d) pa)) p (take (digest_len * d) pa)) (from_leaf (levels (take (digest_len * d) pb)) p (take (digest_len * d) pb)) v w r x y x₁ y₁
+
+  low_at : (r : Option ℕ) → Low r → Finds f (from_leaf d p pa) (from_leaf d p pb) v w r x y x₁ y₁
+  low_at r low = finds_at f _ _ v w (from_leaf d p pa) (from_leaf d p pb) v w r x y x₁ y₁ (low_rungs d p pa in-a) (low_rungs d p pb in_b) refl refl low
 
   even_long : length (from_leaf d p pa) ≡ length (from_leaf d p pb)
   even_long = from_leaf_length d p pa ∙ sym (from_leaf_length d p pb)
 
-  -- found in the first tree
-  pub two_first : is_some r ≡ true → Finds f (through_two d p (levels pa - d) q pa) (through_two d p (levels pb - d) q pb) v w r x y x₁ y₁
-  two_first h = by r refl
-    where
-      by : (o : Option ℕ) → r ≡ o → Finds f (through_two d p (levels pa - d) q pa) (through_two d p (levels pb - d) q pb) v w r x y x₁ y₁
-      by None e = absurd (true≢false (sym h ∙ ap is_some e))
-      by (Some n) e =
-          subst (λ z. Finds f (through_two d p (levels pa - d) q pa) (through_two d p (levels pb - d) q pb) v w z x y x₁ y₁) (sym e)
-          (finds_first f (from_leaf d p pa) (from_leaf d p pb) (from_leaf (levels pa - d) q (drop (digest_len * d) pa)) (from_leaf (levels pb - d) q (drop (digest_len * d) pb)) v w even_long n x y x₁ y₁
-          (subst (λ z. Finds f (from_leaf d p pa) (from_leaf d p pb) v w z x y x₁ y₁) e low_at))
+  -- found there
+  pub two_first : (n : ℕ) → Low (Some n) → Finds f (through_two d p (levels pa - d) q pa) (through_two d p (levels pb - d) q pb) v w (Some n) x y x₁ y₁
+  two_first n low =
+      finds_first f (from_leaf d p pa) (from_leaf d p pb) (from_leaf (levels pa - d) q (drop (digest_len * d) pa)) (from_leaf (levels pb - d) q (drop (digest_len * d) pb)) v w even_long n x y x₁ y₁
+      (low_at (Some n) low)
 
   -- not there, and then searched from the roots reached, a and b
-  pub two_then : (s : Option ℕ) (e₁ e₂ a b x' y' : List ℕ) → is_some r ≡ false
-      → Ends f (from_leaf (levels (take (digest_len * d) pa)) p (take (digest_len * d) pa)) (from_leaf (levels (take (digest_len * d) pb)) p (take (digest_len * d) pb)) v w e₁ e₂ a b
+  pub two_then : (s : Option ℕ) (a b x' y' : List ℕ) → Low None
+      → a ≡ climb plain_rule f (from_leaf (levels (take (digest_len * d) pa)) p (take (digest_len * d) pa)) v
+      → b ≡ climb plain_rule f (from_leaf (levels (take (digest_len * d) pb)) p (take (digest_len * d) pb)) w
       → Finds f (from_leaf (levels (drop (digest_len * d) pa)) q (drop (digest_len * d) pa)) (from_leaf (levels (drop (digest_len * d) pb)) q (drop (digest_len * d) pb)) a b s x₁ y₁ x' y'
       → Finds f (through_two d p (levels pa - d) q pa) (through_two d p (levels pb - d) q pb) v w s x y x' y'
-  two_then s e₁ e₂ a b x' y' h e high =
-      let at = ends_are f _ _ v w r x y x₁ y₁ e₁ e₂ a b low e h in
-      let none : r ≡ None = is_none r h in
+  two_then s a b x' y' low ea eb high =
       finds_then f (from_leaf d p pa) (from_leaf d p pb) (from_leaf (levels pa - d) q (drop (digest_len * d) pa)) (from_leaf (levels pb - d) q (drop (digest_len * d) pb)) v w even_long s x y x₁ y₁ x' y'
-      (subst (λ z. Finds f (from_leaf d p pa) (from_leaf d p pb) v w z x y x₁ y₁) none low_at)
+      (low_at None low)
       (finds_at f _ _ a b _ _ _ _ s x₁ y₁ x' y' (high_rungs d q pa) (high_rungs d q pb)
-      (at.0 ∙ ap (λ rs. climb plain_rule f rs v) (low_rungs d p pa in-a)) (at.1 ∙ ap (λ rs. climb plain_rule f rs w) (low_rungs d p pb in_b)) high)
+      (ea ∙ ap (λ rs. climb plain_rule f rs v) (low_rungs d p pa in-a)) (eb ∙ ap (λ rs. climb plain_rule f rs w) (low_rungs d p pb in_b)) high)

@@ -41,7 +41,7 @@ and_swap true false = refl
 and_swap false true = refl
 and_swap false false = refl
 
-same_append : (x x' y y' : List ℕ) → length x ≡ length x' → bytes_eq (x ++ y) (x' ++ y') ≡ (bytes_eq x x' && bytes_eq y y')
+pub same_append : (x x' y y' : List ℕ) → length x ≡ length x' → bytes_eq (x ++ y) (x' ++ y') ≡ (bytes_eq x x' && bytes_eq y y')
 same_append [] [] y y' h = refl
 same_append [] (b ∷ x') y y' h = absurd (omega arith)
 same_append (a ∷ x) [] y y' h = absurd (omega arith)

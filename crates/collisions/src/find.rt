@@ -1,182 +1,148 @@
 // Finding the collision of two climbs that end alike.
 ghost use Rattle.std.specs.Prelude.{◌≡◌, ◌-◌, ◌≤◌, true, false, length, None};
+ghost use Rattle.std.specs.ControlFlow.{ForContinue, break_value};
 ghost use Rattle.collisions.specs.Finding.{Ends, Finds, Fitting, search_fits, strings_fit, two_fit};
-ghost use Rattle.hash.specs.Digests.{digest_len};
-ghost use Rattle.merkle.specs.Climb.{from_leaf, levels, through_two};
+ghost use Rattle.merkle.specs.Climb.{climb, from_leaf, levels, plain_rule, through_two};
 
-use crate::search::search_leaves;
+use crate::branch::{Branch, Pair};
+use crate::search::search_nodes;
+use crate::strings::{leaf_node, put_leaf};
 use hash::digest::Hash;
 use hash::limits::{DIGEST_LEN, PARTS_LIMIT};
+use std::ops::ControlFlow;
 
-// Whether a search takes values, paths and buffers for strings of these lengths.
-fn strings_fit(
-    value_a: usize,
-    value_b: usize,
-    path_a: usize,
-    path_b: usize,
-    string_a: usize,
-    string_b: usize,
-) -> bool
-    ensures { result ≡ strings_fit value_a value_b path_a path_b string_a string_b }
+// Whether a search takes these leaves, and buffers for strings of these lengths.
+fn strings_fit(a: Branch<'_>, b: Branch<'_>, string_a: usize, string_b: usize) -> bool
+    ensures { result ≡ strings_fit (length a.entry.value.now) (length b.entry.value.now) (length a.entry.path.now) (length b.entry.path.now) string_a string_b }
 {
-    value_a == value_b
-        && value_a <= PARTS_LIMIT
-        && path_a == path_b
-        && path_a % DIGEST_LEN == 0
-        && value_a < string_a
-        && value_a < string_b
+    a.value.len() == b.value.len()
+        && a.value.len() <= PARTS_LIMIT
+        && a.path.len() == b.path.len()
+        && a.path.len() % DIGEST_LEN == 0
+        && a.value.len() < string_a
+        && a.value.len() < string_b
         && 2 * DIGEST_LEN < string_a
         && 2 * DIGEST_LEN < string_b
 }
 
+// Breaks off with the common length of the strings that collide first, which it writes, and else goes on with the ends.
 fn find<H: Hash>(
-    value_a: &[u8],
-    value_b: &[u8],
+    a: Branch<'_>,
+    b: Branch<'_>,
     place: usize,
-    path_a: &[u8],
-    path_b: &[u8],
-    end_a: &mut [u8],
-    end_b: &mut [u8],
     string_a: &mut [u8],
     string_b: &mut [u8],
-) -> Option<usize>
-    requires lengths { Fitting (length value_a.now) (length value_b.now) (length path_a.now) (length path_b.now) (length string_a.old) (length string_b.old) }
-    requires ends { (length end_a.old ≡ digest_len) × (length end_b.old ≡ digest_len) }
-    ensures finds { Finds H.meaning (from_leaf (levels path_a.now) place path_a.now) (from_leaf (levels path_b.now) place path_b.now) value_a.now value_b.now result string_a.old string_b.old string_a.new string_b.new }
-    ensures ends { Ends H.meaning (from_leaf (levels path_a.now) place path_a.now) (from_leaf (levels path_b.now) place path_b.now) value_a.now value_b.now end_a.old end_b.old end_a.new end_b.new }
+) -> ControlFlow<usize, ([u8; DIGEST_LEN], [u8; DIGEST_LEN])>
+    requires { Fitting (length a.value.now) (length b.value.now) (length a.path.now) (length b.path.now) (length string_a.old) (length string_b.old) }
+    ensures finds { Finds H.meaning (from_leaf (levels a.entry.path.now) place a.entry.path.now) (from_leaf (levels b.entry.path.now) place b.entry.path.now) a.entry.value.now b.entry.value.now (break_value result) string_a.old string_b.old string_a.new string_b.new }
+    ensures ends { ForContinue result (λ ends. (ends.0 ≡ climb plain_rule H.meaning (from_leaf (levels a.entry.path.now) place a.entry.path.now) a.entry.value.now) × (ends.1 ≡ climb plain_rule H.meaning (from_leaf (levels b.entry.path.now) place b.entry.path.now) b.entry.value.now)) }
 {
-    let mut a = [0u8; DIGEST_LEN];
-    let mut b = [0u8; DIGEST_LEN];
-    let found = search_leaves::<H>(
-        value_a,
-        value_b,
-        place,
-        path_a.len() / DIGEST_LEN,
-        path_a,
-        path_b,
-        &mut a,
-        &mut b,
-        string_a,
-        string_b,
-    );
-    if found.is_none() {
-        end_a.copy_from_slice(&a);
-        end_b.copy_from_slice(&b);
+    let node_a = leaf_node::<H>(a.value);
+    let node_b = leaf_node::<H>(b.value);
+    if a.value != b.value && node_a == node_b {
+        put_leaf(b.value, string_b);
+        return ControlFlow::Break(put_leaf(a.value, string_a));
     }
-    found
+    let (path_a, _) = a.path.as_chunks();
+    let (path_b, _) = b.path.as_chunks();
+    match search_nodes::<H>(node_a, node_b, place, path_a, path_b) {
+        ControlFlow::Break((below_a, below_b)) => {
+            below_b.put(string_b);
+            ControlFlow::Break(below_a.put(string_a))
+        }
+        ControlFlow::Continue(ends) => ControlFlow::Continue(ends),
+    }
 }
 
-// Compares the climbs from two leaf values at one place, and at the first level where what is hashed differs and the digests agree
-// writes both strings to the fronts of `string_a` and `string_b` and answers their common length. Where there is no such level it
-// answers none and writes the ends of the climbs, from which another tree may be climbed. Where the lengths do not fit it answers
-// none and writes nothing.
+// Compares the climbs from two leaves at one place, and at the first level where what is hashed differs and the digests agree writes
+// both strings to the fronts of `strings` and answers their common length. Where there is no such level it answers none and writes
+// the ends of the climbs, from which another tree may be climbed. Where the lengths do not fit it answers none and writes nothing.
 pub fn find_collision<H: Hash>(
-    value_a: &[u8],
-    value_b: &[u8],
+    a: Branch<'_>,
+    b: Branch<'_>,
     place: usize,
-    path_a: &[u8],
-    path_b: &[u8],
-    end_a: &mut [u8],
-    end_b: &mut [u8],
-    string_a: &mut [u8],
-    string_b: &mut [u8],
+    ends: Pair<'_>,
+    strings: Pair<'_>,
 ) -> Option<usize>
-    ensures finds { search_fits (length value_a.now) (length value_b.now) (length path_a.now) (length path_b.now) (length end_a.old) (length end_b.old) (length string_a.old) (length string_b.old) ≡ true → Finds H.meaning (from_leaf (levels path_a.now) place path_a.now) (from_leaf (levels path_b.now) place path_b.now) value_a.now value_b.now result string_a.old string_b.old string_a.new string_b.new }
-    ensures ends { search_fits (length value_a.now) (length value_b.now) (length path_a.now) (length path_b.now) (length end_a.old) (length end_b.old) (length string_a.old) (length string_b.old) ≡ true → Ends H.meaning (from_leaf (levels path_a.now) place path_a.now) (from_leaf (levels path_b.now) place path_b.now) value_a.now value_b.now end_a.old end_b.old end_a.new end_b.new }
-    ensures unfit { search_fits (length value_a.now) (length value_b.now) (length path_a.now) (length path_b.now) (length end_a.old) (length end_b.old) (length string_a.old) (length string_b.old) ≡ false → (result ≡ None) × (end_a.new ≡ end_a.old) × (end_b.new ≡ end_b.old) × (string_a.new ≡ string_a.old) × (string_b.new ≡ string_b.old) }
+    ensures finds { search_fits (length a.entry.value.now) (length b.entry.value.now) (length a.entry.path.now) (length b.entry.path.now) (length ends.entry.a.now) (length ends.entry.b.now) (length strings.entry.a.now) (length strings.entry.b.now) ≡ true → Finds H.meaning (from_leaf (levels a.entry.path.now) place a.entry.path.now) (from_leaf (levels b.entry.path.now) place b.entry.path.now) a.entry.value.now b.entry.value.now result strings.entry.a.now strings.entry.b.now strings.exit.0.now strings.exit.1.0.now }
+    ensures ends { search_fits (length a.entry.value.now) (length b.entry.value.now) (length a.entry.path.now) (length b.entry.path.now) (length ends.entry.a.now) (length ends.entry.b.now) (length strings.entry.a.now) (length strings.entry.b.now) ≡ true → Ends H.meaning (from_leaf (levels a.entry.path.now) place a.entry.path.now) (from_leaf (levels b.entry.path.now) place b.entry.path.now) a.entry.value.now b.entry.value.now ends.entry.a.now ends.entry.b.now ends.exit.0.now ends.exit.1.0.now }
+    ensures unfit { search_fits (length a.entry.value.now) (length b.entry.value.now) (length a.entry.path.now) (length b.entry.path.now) (length ends.entry.a.now) (length ends.entry.b.now) (length strings.entry.a.now) (length strings.entry.b.now) ≡ false → (result ≡ None) × (ends.exit.0.now ≡ ends.entry.a.now) × (ends.exit.1.0.now ≡ ends.entry.b.now) × (strings.exit.0.now ≡ strings.entry.a.now) × (strings.exit.1.0.now ≡ strings.entry.b.now) }
 {
-    let fits = strings_fit(
-        value_a.len(),
-        value_b.len(),
-        path_a.len(),
-        path_b.len(),
-        string_a.len(),
-        string_b.len(),
-    ) && end_a.len() == DIGEST_LEN
-        && end_b.len() == DIGEST_LEN;
-    if !fits {
+    let Pair { a: end_a, b: end_b } = ends;
+    let Pair {
+        a: string_a,
+        b: string_b,
+    } = strings;
+    if !strings_fit(a, b, string_a.len(), string_b.len())
+        || end_a.len() != DIGEST_LEN
+        || end_b.len() != DIGEST_LEN
+    {
         return None;
     }
-    find::<H>(
-        value_a, value_b, place, path_a, path_b, end_a, end_b, string_a, string_b,
-    )
+    match find::<H>(a, b, place, string_a, string_b) {
+        ControlFlow::Break(len) => Some(len),
+        ControlFlow::Continue(nodes) => {
+            end_a.copy_from_slice(&nodes.0);
+            end_b.copy_from_slice(&nodes.1);
+            None
+        }
+    }
 }
 
+// Breaks off as `find` does, in the first tree or in the second.
 fn find_in_two<H: Hash>(
-    value_a: &[u8],
-    value_b: &[u8],
+    a: Branch<'_>,
+    b: Branch<'_>,
     depth: usize,
     place: usize,
     next_place: usize,
-    path_a: &[u8],
-    path_b: &[u8],
     string_a: &mut [u8],
     string_b: &mut [u8],
-) -> Option<usize>
-    requires lengths { Fitting (length value_a.now) (length value_b.now) (length path_a.now) (length path_b.now) (length string_a.old) (length string_b.old) }
-    requires depth { depth ≤ levels path_a.now }
-    ensures { Finds H.meaning (through_two depth place (levels path_a.now - depth) next_place path_a.now) (through_two depth place (levels path_b.now - depth) next_place path_b.now) value_a.now value_b.now result string_a.old string_b.old string_a.new string_b.new }
+) -> ControlFlow<usize, ([u8; DIGEST_LEN], [u8; DIGEST_LEN])>
+    requires lengths { Fitting (length a.value.now) (length b.value.now) (length a.path.now) (length b.path.now) (length string_a.old) (length string_b.old) }
+    requires depth { depth ≤ levels a.path.now }
+    ensures { Finds H.meaning (through_two depth place (levels a.entry.path.now - depth) next_place a.entry.path.now) (through_two depth place (levels b.entry.path.now - depth) next_place b.entry.path.now) a.entry.value.now b.entry.value.now (break_value result) string_a.old string_b.old string_a.new string_b.new }
 {
     let cut = DIGEST_LEN * depth;
-    let mut root_a = [0u8; DIGEST_LEN];
-    let mut root_b = [0u8; DIGEST_LEN];
-    let low = find::<H>(
-        value_a,
-        value_b,
-        place,
-        &path_a[..cut],
-        &path_b[..cut],
-        &mut root_a,
-        &mut root_b,
-        string_a,
-        string_b,
-    );
-    if low.is_some() {
-        return low;
-    }
-    let mut end_a = [0u8; DIGEST_LEN];
-    let mut end_b = [0u8; DIGEST_LEN];
-    find::<H>(
-        &root_a,
-        &root_b,
-        next_place,
-        &path_a[cut..],
-        &path_b[cut..],
-        &mut end_a,
-        &mut end_b,
-        string_a,
-        string_b,
-    )
+    let low_a = Branch {
+        path: &a.path[..cut],
+        ..a
+    };
+    let low_b = Branch {
+        path: &b.path[..cut],
+        ..b
+    };
+    let (root_a, root_b) = find::<H>(low_a, low_b, place, string_a, string_b)?;
+    let high_a = Branch {
+        value: &root_a,
+        path: &a.path[cut..],
+    };
+    let high_b = Branch {
+        value: &root_b,
+        path: &b.path[cut..],
+    };
+    find::<H>(high_a, high_b, next_place, string_a, string_b)
 }
 
 // The same through two trees, one after the other: up the `depth` levels of the first from the leaf at `place`, and by the rest of the
 // path up the second, in which the first one's root is the value of the leaf at `next_place`.
 pub fn find_collision_through<H: Hash>(
-    value_a: &[u8],
-    value_b: &[u8],
+    a: Branch<'_>,
+    b: Branch<'_>,
     depth: usize,
     place: usize,
     next_place: usize,
-    path_a: &[u8],
-    path_b: &[u8],
-    string_a: &mut [u8],
-    string_b: &mut [u8],
+    strings: Pair<'_>,
 ) -> Option<usize>
-    ensures finds { two_fit depth (length value_a.now) (length value_b.now) (length path_a.now) (length path_b.now) (length string_a.old) (length string_b.old) ≡ true → Finds H.meaning (through_two depth place (levels path_a.now - depth) next_place path_a.now) (through_two depth place (levels path_b.now - depth) next_place path_b.now) value_a.now value_b.now result string_a.old string_b.old string_a.new string_b.new }
-    ensures unfit { two_fit depth (length value_a.now) (length value_b.now) (length path_a.now) (length path_b.now) (length string_a.old) (length string_b.old) ≡ false → (result ≡ None) × (string_a.new ≡ string_a.old) × (string_b.new ≡ string_b.old) }
+    ensures finds { two_fit depth (length a.entry.value.now) (length b.entry.value.now) (length a.entry.path.now) (length b.entry.path.now) (length strings.entry.a.now) (length strings.entry.b.now) ≡ true → Finds H.meaning (through_two depth place (levels a.entry.path.now - depth) next_place a.entry.path.now) (through_two depth place (levels b.entry.path.now - depth) next_place b.entry.path.now) a.entry.value.now b.entry.value.now result strings.entry.a.now strings.entry.b.now strings.exit.0.now strings.exit.1.0.now }
+    ensures unfit { two_fit depth (length a.entry.value.now) (length b.entry.value.now) (length a.entry.path.now) (length b.entry.path.now) (length strings.entry.a.now) (length strings.entry.b.now) ≡ false → (result ≡ None) × (strings.exit.0.now ≡ strings.entry.a.now) × (strings.exit.1.0.now ≡ strings.entry.b.now) }
 {
-    let fits = strings_fit(
-        value_a.len(),
-        value_b.len(),
-        path_a.len(),
-        path_b.len(),
-        string_a.len(),
-        string_b.len(),
-    ) && depth <= path_a.len() / DIGEST_LEN;
-    if !fits {
+    let Pair {
+        a: string_a,
+        b: string_b,
+    } = strings;
+    if !strings_fit(a, b, string_a.len(), string_b.len()) || depth > a.path.len() / DIGEST_LEN {
         return None;
     }
-    find_in_two::<H>(
-        value_a, value_b, depth, place, next_place, path_a, path_b, string_a, string_b,
-    )
+    find_in_two::<H>(a, b, depth, place, next_place, string_a, string_b).break_value()
 }

@@ -1,76 +1,37 @@
 // Two climbs compared level by level.
-ghost use Rattle.std.specs.Prelude.{◌≡◌, ◌*◌, ◌<◌, ◌≤◌, length, None};
-ghost use Rattle.collisions.specs.Finding.{found_len, put_one, put_other};
-ghost use Rattle.hash.specs.Digests.{digest_len, parts_limit};
+ghost use Rattle.std.specs.Prelude.{◌≡◌, ◌∷◌, ◌++◌, length, None, Some};
+ghost use Rattle.std.specs.ControlFlow.{MatchControlFlow};
 ghost use Rattle.merkle.specs.Binding.{found};
-ghost use Rattle.merkle.specs.Climb.{climb, from_leaf, from_node, plain_rule};
+ghost use Rattle.merkle.specs.Climb.{climb, past, plain_rule};
 
-use crate::level::{leaf_level, pair_level};
+use crate::strings::Children;
 use hash::digest::Hash;
 use hash::limits::DIGEST_LEN;
+use std::ops::ControlFlow;
 
-// Finds the first collision of the climbs from the nodes `a` and `b`, up `depth` levels. Where there is none, they become the ends.
-fn search_nodes<H: Hash>(
-    a: &mut [u8],
-    b: &mut [u8],
-    place: usize,
-    depth: usize,
-    path_a: &[u8],
-    path_b: &[u8],
-    string_a: &mut [u8],
-    string_b: &mut [u8],
-) -> Option<usize>
-    requires nodes { (length a.old ≡ digest_len) × (length b.old ≡ digest_len) }
-    requires paths { (digest_len * depth ≤ length path_a.now) × (digest_len * depth ≤ length path_b.now) }
-    requires room { (2 * digest_len < length string_a.old) × (2 * digest_len < length string_b.old) }
-    ensures answer { result ≡ found_len (found H.meaning (from_node depth place path_a.now) (from_node depth place path_b.now) a.old b.old) }
-    ensures one { string_a.new ≡ put_one (found H.meaning (from_node depth place path_a.now) (from_node depth place path_b.now) a.old b.old) string_a.old }
-    ensures other { string_b.new ≡ put_other (found H.meaning (from_node depth place path_a.now) (from_node depth place path_b.now) a.old b.old) string_b.old }
-    ensures ends { result ≡ None → (a.new ≡ climb plain_rule H.meaning (from_node depth place path_a.now) a.old) × (b.new ≡ climb plain_rule H.meaning (from_node depth place path_b.now) b.old) }
+// Compares the climbs from two nodes past their siblings. It breaks off at the first level where what is hashed collides, and else
+// goes on with the ends.
+pub(crate) fn search_nodes<H: Hash>(
+    mut a: [u8; DIGEST_LEN],
+    mut b: [u8; DIGEST_LEN],
+    mut place: usize,
+    path_a: &[[u8; DIGEST_LEN]],
+    path_b: &[[u8; DIGEST_LEN]],
+) -> ControlFlow<(Children, Children), ([u8; DIGEST_LEN], [u8; DIGEST_LEN])>
+    requires { length path_a.now ≡ length path_b.now }
+    ensures { MatchControlFlow result
+        (λ ends. (found H.meaning (past place path_a.now) (past place path_b.now) a b ≡ None) × (ends.0 ≡ climb plain_rule H.meaning (past place path_a.now) a) × (ends.1 ≡ climb plain_rule H.meaning (past place path_b.now) b))
+        (λ hit. found H.meaning (past place path_a.now) (past place path_b.now) a b ≡ Some (record { one = 1 ∷ (hit.0.left ++ hit.0.right); other = 1 ∷ (hit.1.left ++ hit.1.right) })) }
 {
-    let mut place = place;
-    for i in 0..depth {
-        let at = DIGEST_LEN * i;
-        if pair_level::<H>(
-            a,
-            b,
-            place,
-            &path_a[at..at + DIGEST_LEN],
-            &path_b[at..at + DIGEST_LEN],
-            string_a,
-            string_b,
-        ) {
-            return Some(2 * DIGEST_LEN + 1);
+    for (sibling_a, sibling_b) in path_a.iter().zip(path_b) {
+        let below_a = Children::of(a, place, *sibling_a);
+        let below_b = Children::of(b, place, *sibling_b);
+        a = below_a.parent::<H>();
+        b = below_b.parent::<H>();
+        if below_a != below_b && a == b {
+            return ControlFlow::Break((below_a, below_b));
         }
         place /= 2;
     }
-    None
-}
-
-// The same from leaf values. Where there is none, `a` and `b` are the ends.
-pub(crate) fn search_leaves<H: Hash>(
-    value_a: &[u8],
-    value_b: &[u8],
-    place: usize,
-    depth: usize,
-    path_a: &[u8],
-    path_b: &[u8],
-    a: &mut [u8],
-    b: &mut [u8],
-    string_a: &mut [u8],
-    string_b: &mut [u8],
-) -> Option<usize>
-    requires values { (length value_a.now ≤ parts_limit) × (length value_b.now ≤ parts_limit) }
-    requires nodes { (length a.old ≡ digest_len) × (length b.old ≡ digest_len) }
-    requires paths { (digest_len * depth ≤ length path_a.now) × (digest_len * depth ≤ length path_b.now) }
-    requires room { (length value_a.now < length string_a.old) × ((length value_b.now < length string_b.old) × ((2 * digest_len < length string_a.old) × (2 * digest_len < length string_b.old))) }
-    ensures answer { result ≡ found_len (found H.meaning (from_leaf depth place path_a.now) (from_leaf depth place path_b.now) value_a.now value_b.now) }
-    ensures one { string_a.new ≡ put_one (found H.meaning (from_leaf depth place path_a.now) (from_leaf depth place path_b.now) value_a.now value_b.now) string_a.old }
-    ensures other { string_b.new ≡ put_other (found H.meaning (from_leaf depth place path_a.now) (from_leaf depth place path_b.now) value_a.now value_b.now) string_b.old }
-    ensures ends { result ≡ None → (a.new ≡ climb plain_rule H.meaning (from_leaf depth place path_a.now) value_a.now) × (b.new ≡ climb plain_rule H.meaning (from_leaf depth place path_b.now) value_b.now) }
-{
-    if leaf_level::<H>(value_a, value_b, a, b, string_a, string_b) {
-        return Some(value_a.len() + 1);
-    }
-    search_nodes::<H>(a, b, place, depth, path_a, path_b, string_a, string_b)
+    ControlFlow::Continue((a, b))
 }

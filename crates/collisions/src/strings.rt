@@ -1,47 +1,75 @@
 // The strings that are hashed on the way up, compared and written.
-ghost use Rattle.std.specs.Prelude.{◌≡◌, ◌+◌, ◌<◌, not, ◌∷◌, ◌++◌, length};
+ghost use Rattle.std.specs.Prelude.{◌≡◌, ◌+◌, ◌*◌, ◌<◌, ◌≤◌, ◌∷◌, ◌++◌, length};
 ghost use Rattle.collisions.specs.Finding.{at_front};
-ghost use Rattle.merkle.specs.Climb.{alone, beside, input, plain_rule};
-ghost use Rattle.merkle.specs.Tree.{Side, side};
-ghost use Rattle.std.specs.Str.{bytes_eq};
+ghost use Rattle.hash.specs.Digests.{digest_len, parts_limit};
+ghost use Rattle.merkle.specs.Climb.{above, alone, beside, input, leaf_of, plain_rule};
+ghost use Rattle.merkle.specs.Tree.{side};
 
-use octets::compare::same;
+use climbs::node::{in_order, join, leaf_digest};
+use hash::digest::Hash;
+use hash::limits::DIGEST_LEN;
 use octets::splice::splice;
 
-// Writes a lead byte and two parts to the front.
-fn put_joined(lead: u8, left: &[u8], right: &[u8], out: &mut [u8])
+// Writes a lead byte and two parts to the front, and answers how many bytes they are.
+fn put_joined(lead: u8, left: &[u8], right: &[u8], out: &mut [u8]) -> usize
     requires { length left.now + length right.now < length out.old }
-    ensures { out.new ≡ at_front (lead ∷ (left.now ++ right.now)) out.old }
+    ensures len { result ≡ length (lead ∷ (left.now ++ right.now)) }
+    ensures written { out.new ≡ at_front (lead ∷ (left.now ++ right.now)) out.old }
 {
     let _ = splice(out, 0, &[lead]);
     let _ = splice(out, 1, left);
     let _ = splice(out, 1 + left.len(), right);
+    1 + left.len() + right.len()
 }
 
-// Writes what is hashed for a leaf.
-pub(crate) fn put_leaf(value: &[u8], out: &mut [u8])
+// The node of a leaf's value.
+pub(crate) fn leaf_node<H: Hash>(value: &[u8]) -> [u8; DIGEST_LEN]
+    requires { length value.now ≤ parts_limit }
+    ensures { result ≡ leaf_of plain_rule H.meaning value.now }
+{
+    let mut node = [0u8; DIGEST_LEN];
+    let _ = leaf_digest::<H>(value, &mut node);
+    node
+}
+
+// Writes what is hashed for a leaf, and answers how many bytes that is.
+pub(crate) fn put_leaf(value: &[u8], out: &mut [u8]) -> usize
     requires { length value.now < length out.old }
-    ensures { out.new ≡ at_front (input plain_rule alone value.now) out.old }
+    ensures len { result ≡ length (input plain_rule alone value.now) }
+    ensures written { out.new ≡ at_front (input plain_rule alone value.now) out.old }
 {
-    put_joined(0x00, value, &[], out);
+    put_joined(0x00, value, &[], out)
 }
 
-// Writes what is hashed for the node above `node`.
-pub(crate) fn put_pair(node: &[u8], place: usize, sibling: &[u8], out: &mut [u8])
-    requires { length node.now + length sibling.now < length out.old }
-    ensures { out.new ≡ at_front (input plain_rule (beside (side place) sibling.now) node.now) out.old }
-{
-    if place % 2 == 0 {
-        put_joined(0x01, node, sibling, out);
-    } else {
-        put_joined(0x01, sibling, node, out);
+// Two nodes that are hashed together, the left one first.
+#[derive(Clone, Copy, PartialEq, Eq)]
+pub(crate) struct Children {
+    left: [u8; DIGEST_LEN],
+    right: [u8; DIGEST_LEN],
+}
+
+impl Children {
+    // A node that stands at `place`, and its sibling.
+    pub(crate) fn of(node: [u8; DIGEST_LEN], place: usize, sibling: [u8; DIGEST_LEN]) -> Self
+        ensures { 1 ∷ (result.left ++ result.right) ≡ input plain_rule (beside (side place) sibling) node }
+    {
+        let (left, right) = in_order(node, place, sibling);
+        Children { left, right }
     }
-}
 
-// Whether what is hashed for two pairs differs, on whichever side the siblings stand.
-pub(crate) fn differ(a: &[u8], sibling_a: &[u8], b: &[u8], sibling_b: &[u8]) -> bool
-    requires { (length a.now ≡ length b.now) × (length sibling_a.now ≡ length sibling_b.now) }
-    ensures { (s : Side) → result ≡ not (bytes_eq (input plain_rule (beside s sibling_a.now) a.now) (input plain_rule (beside s sibling_b.now) b.now)) }
-{
-    !(same(a, b) && same(sibling_a, sibling_b))
+    // The node over them.
+    pub(crate) fn parent<H: Hash>(&self) -> [u8; DIGEST_LEN]
+        ensures { result ≡ H.meaning (1 ∷ (self.now.left ++ self.now.right)) }
+    {
+        join::<H>(&self.left, &self.right)
+    }
+
+    // Writes what is hashed for it, and answers how many bytes that is.
+    pub(crate) fn put(&self, out: &mut [u8]) -> usize
+        requires { 2 * digest_len < length out.old }
+        ensures len { result ≡ length (1 ∷ (self.now.left ++ self.now.right)) }
+        ensures written { out.new ≡ at_front (1 ∷ (self.now.left ++ self.now.right)) out.old }
+    {
+        put_joined(0x01, &self.left, &self.right, out)
+    }
 }

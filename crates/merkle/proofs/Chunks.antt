@@ -3,7 +3,7 @@ use Rattle.std.proofs.Common.{◌≡◌, ℕ, zero, suc, ◌+◌, ◌/◌, ◌<�
 use Rattle.std.specs.Simd.{first_chunks}
 use Rattle.hash.specs.Digests.{digest_len}
 use Rattle.merkle.specs.Tree.{side, sides}
-use Rattle.merkle.specs.Climb.{Node, Rule, Rung, beside, rungs, slot, slots, levels, climb, above, from_node}
+use Rattle.merkle.specs.Climb.{Node, Rule, Rung, beside, rungs, past, slot, slots, levels, climb, above, from_node}
 use Rattle.std.proofs.lemmas.List.{drop_all}
 use Rattle.merkle.proofs.Climbing.{slots_length}
 use Rattle.merkle.proofs.Steps.{climb_more, climb_none}
@@ -26,10 +26,7 @@ chunks_slots (suc k) xs = ap (λ ys. take digest_len xs ∷ ys) (chunks_slots k 
 
 -- ---- a climb past siblings in a list
 
--- all of it, and what is left of it after i of them, at place p
-abbrev pub past : ℕ → List Node → List Rung
-past p ys = rungs (sides (length ys) p) ys
-
+-- what is left of it after i of them, at place p
 abbrev pub past_from : ℕ → ℕ → List Node → List Rung
 past_from i p ys = past p (drop i ys)
 

@@ -42,6 +42,10 @@ rungs [] ys = []
 rungs (s ∷ ss) [] = []
 rungs (s ∷ ss) (y ∷ ys) = beside s y ∷ rungs ss ys
 
+-- from a node at place p past the siblings in a list
+abbrev pub past : ℕ → List Node → List Rung
+past p ys = rungs (sides (length ys) p) ys
+
 -- the string that a step hashes
 abbrev pub input : Rule → Rung → List ℕ → List ℕ
 input R alone x = R.leaf_input x

@@ -1,6 +1,6 @@
 use mathlib.Core.Path.{◌≡◌}
-use Rattle.merkle.specs.Climb.{plain_rule, climb}
-use Rattle.merkle.proofs.Chunks.{past, past_from}
+use Rattle.merkle.specs.Climb.{plain_rule, climb, past}
+use Rattle.merkle.proofs.Chunks.{past_from}
 use Rattle.climbs.proofs.climb.climb_up.Given as goal
 
 abbrev pub invariant-loop-sibling : goal.invariant-loop-sibling

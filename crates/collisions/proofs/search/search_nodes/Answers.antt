@@ -1,87 +1,77 @@
-use Rattle.std.proofs.Common.{◌≡◌, ℕ, ◌+◌, ◌*◌, ◌≤◌, length, Option, sym, refl, ap, ◌∙◌, arith}
-use Rattle.hash.specs.Digests.{digest_len}
-use Rattle.merkle.specs.Tree.{side}
-use Rattle.merkle.specs.Climb.{plain_rule, climb, above, beside, from_node}
-use Rattle.merkle.specs.Binding.{Two, found}
-use Rattle.merkle.proofs.Steps.{left, left_none, climb_on, climb_all, slot_cut, slot_length}
-use Rattle.collisions.specs.Finding.{found_len, put_one, put_other}
-use Rattle.collisions.proofs.Levels.{pair_hit, pair_miss, no_pair}
+use Rattle.std.proofs.Common.{◌≡◌, ◌∷◌, ◌++◌, ◌/◌, [], length, false, sym, ap, ◌∙◌, arith}
+use Rattle.std.proofs.lemmas.Slice.Zip.{zip_turn, zip_end}
+use Rattle.std.proofs.lemmas.List.{length_push}
+use Rattle.merkle.specs.Climb.{plain_rule, climb}
+use Rattle.merkle.specs.Binding.{collides, found}
+use Rattle.merkle.proofs.Chunks.{past_from, past_on, past_end}
+use Rattle.collisions.proofs.Levels.{no_difference, collide, no_agreement, children_differ, pair_hit, pair_miss, up_a, up_b, no_pair}
 use Rattle.collisions.proofs.search.search_nodes.Goals as goal
+use Rattle.collisions.proofs.search.search_nodes.Goals.{else-ne-via-then-ne+else-eq, else-ne-via-else-ne}
 
-pub loop-i-init : goal.loop-i-init
-loop-i-init g c =
+pub returns-then-eq : goal.returns-then-eq
+returns-then-eq g c =
     let f = g.H.Hash.meaning in
-    let d = c.args.depth in
-    let p = c.args.place in
     let pa = c.args.path_a.now in
     let pb = c.args.path_b.now in
-    let a = c.args.a.now in
-    let b = c.args.b.now in (
-      ap (λ rs. found f rs (left d 0 p pb) a b) (left_none d p pa) ∙ ap (λ rs. found f (from_node d p pa) rs a b) (left_none d p pb),
-      ap (λ rs. climb plain_rule f rs a) (left_none d p pa),
-      ap (λ rs. climb plain_rule f rs b) (left_none d p pb),
-      refl,
-      refl,
-    )
+    let below_a = c.of-below_a.result in
+    let below_b = c.of-below_b.result in
+    let turn = zip_turn pa pb c.loop-sibling_a.yielded c.into_iter-sibling_a-iterator.result c.loop-sibling_a.sibling_a-iterator c.next.new.self _ (cc) (cc) c.loop-sibling_a.yielded_by _ c.in-Some.is c.next.ensures.steps in
+    let differ = children_differ below_a.left below_a.right below_b.left below_b.right c.ne.result (omega arith) c.ne.ensures in
+    let hit = collide f (1 ∷ (below_a.left ++ below_a.right)) (1 ∷ (below_b.left ++ below_b.right)) c.ne.result differ
+    c.eq.result c.parent-a.result c.parent-b.result c.parent-a.ensures c.parent-b.ensures c.eq.ensures c.if-ne.true c.if-eq.true in
+    sym c.loop-sibling_a.invariant.0
+    ∙ pair_hit f (length c.loop-sibling_a.yielded) c.loop-sibling_a.place pa pb c.loop-sibling_a.a c.loop-sibling_a.b
+    c.in-Some.sibling_a.now c.in-Some.sibling_b.now _ _ turn.0 turn.1 (turn.2 []) (turn.3 []) c.of-below_a.ensures c.of-below_b.ensures hit
 
-pub returns-then-pair_level : goal.returns-then-pair_level
-returns-then-pair_level g c =
-    let i = c.loop-i.i in
-    let pa = c.args.path_a.now in
-    let pb = c.args.path_b.now in
-    let inv = c.loop-i.invariant in
-    let within : digest_len * i + digest_len ≤ length pa = omega arith in
-    let o : Option Two =
-    found g.H.Hash.meaning (from_node c.args.depth c.args.place pa) (from_node c.args.depth c.args.place pb) c.args.a.now c.args.b.now in
-    let all =
-    pair_hit g.H.Hash.meaning c.args.depth i c.loop-i.place pa pb c.loop-i.a c.loop-i.b _ _
-    (slot_cut i pa) (slot_cut i pb) c.loop-i-test.true o inv.0
-    c.loop-i.string_a c.loop-i.string_b c.pair_level.new.string_a c.pair_level.new.string_b
-    (omega arith) (ap length (slot_cut i pa) ∙ slot_length i pa within)
-    (sym c.if-pair_level.ensures.hit) c.if-pair_level.ensures.one c.if-pair_level.ensures.other in
-    record {
-      answer = all.0;
-      one = all.1 ∙ ap (put_one o) inv.3;
-      other = all.2 ∙ ap (put_other o) inv.4;
-      ends = λ z. let no : ◌≡◌ {A = ℕ} 0 1 = cc in absurd (omega arith);
-    }
-
-pub loop-i-preserved : goal.loop-i-preserved
-loop-i-preserved g c =
+pub loop-sibling_a-preserved : goal.loop-sibling_a-preserved
+loop-sibling_a-preserved g c =
     let f = g.H.Hash.meaning in
-    let i = c.loop-i.i in
-    let p = c.loop-i.place in
+    let i = length c.loop-sibling_a.yielded in
+    let p = c.loop-sibling_a.place in
     let pa = c.args.path_a.now in
     let pb = c.args.path_b.now in
-    let inv = c.loop-i.invariant in
-    let up = c.if-pair_level.ensures in (
-      pair_miss f c.args.depth i p pa pb c.loop-i.a c.loop-i.b _ _
-          (slot_cut i pa) (slot_cut i pb) c.loop-i-test.true _ inv.0
-          c.pair_level.new.a c.pair_level.new.b (sym up.hit) (up.first refl) (up.second refl),
-      climb_on plain_rule f c.args.depth i p pa c.loop-i.a _ c.loop-i-test.true
-          (up.first refl ∙ ap (λ s. above plain_rule f (beside (side p) s) c.loop-i.a) (slot_cut i pa)) ∙ inv.1,
-      climb_on plain_rule f c.args.depth i p pb c.loop-i.b _ c.loop-i-test.true
-          (up.second refl ∙ ap (λ s. above plain_rule f (beside (side p) s) c.loop-i.b) (slot_cut i pb)) ∙ inv.2,
-      up.one ∙ inv.3,
-      up.other ∙ inv.4,
+    let a = c.loop-sibling_a.a in
+    let b = c.loop-sibling_a.b in
+    let sa = c.in-Some.sibling_a.now in
+    let sb = c.in-Some.sibling_b.now in
+    let u = c.parent-a.result in
+    let v = c.parent-b.result in
+    let below_a = c.of-below_a.result in
+    let below_b = c.of-below_b.result in
+    let x = 1 ∷ (below_a.left ++ below_a.right) in
+    let y = 1 ∷ (below_b.left ++ below_b.right) in
+    let inv = c.loop-sibling_a.invariant in
+    let turn = zip_turn pa pb c.loop-sibling_a.yielded c.into_iter-sibling_a-iterator.result c.loop-sibling_a.sibling_a-iterator c.next.new.self _ (cc) (cc) c.loop-sibling_a.yielded_by _ c.in-Some.is c.next.ensures.steps in
+    let differ = children_differ below_a.left below_a.right below_b.left below_b.right c.ne.result (omega arith) c.ne.ensures in
+    let miss : collides f x y ≡ false =
+    elim c.else-ne.branch [
+      | else-ne-via-then-ne+else-eq w ↦ no_agreement f x y c.ne.result differ w.eq.result u v c.parent-a.ensures c.parent-b.ensures w.eq.ensures w.if-eq.false
+      | else-ne-via-else-ne w ↦ no_difference f x y c.ne.result differ w.if-ne.false
+    ] in
+    let more = length_push c.loop-sibling_a.yielded (c.in-Some.sibling_a, c.in-Some.sibling_b) in
+    let ea = turn.2 [] in
+    let eb = turn.3 [] in (
+      ap (λ n. found f (past_from n (p / 2) pa) (past_from n (p / 2) pb) u v) more
+          ∙ pair_miss f i p pa pb a b sa sb x y turn.0 turn.1 ea eb c.of-below_a.ensures c.of-below_b.ensures u v miss c.parent-a.ensures c.parent-b.ensures
+          ∙ inv.0,
+      ap (λ n. climb plain_rule f (past_from n (p / 2) pa) u) more
+          ∙ past_on plain_rule f i p pa a sa u turn.0 ea (up_a f i p pa pb a b sa sb x y turn.0 turn.1 ea eb c.of-below_a.ensures c.of-below_b.ensures u c.parent-a.ensures)
+          ∙ inv.1,
+      ap (λ n. climb plain_rule f (past_from n (p / 2) pb) v) more
+          ∙ past_on plain_rule f i p pb b sb v turn.1 eb (up_b f i p pa pb a b sa sb x y turn.0 turn.1 ea eb c.of-below_a.ensures c.of-below_b.ensures v c.parent-b.ensures)
+          ∙ inv.2,
     )
 
 pub returns : goal.returns
 returns g c =
     let f = g.H.Hash.meaning in
-    let d = c.args.depth in
-    let i = c.loop-i.i in
-    let p = c.loop-i.place in
+    let p = c.loop-sibling_a.place in
     let pa = c.args.path_a.now in
     let pb = c.args.path_b.now in
-    let inv = c.loop-i.invariant in
-    let none = sym inv.0 ∙ no_pair f d i p pa pb c.loop-i.a c.loop-i.b c.loop-i-test.false in
-    record {
-      answer = sym (ap found_len none);
-      one = inv.3 ∙ ap (λ o. put_one o c.args.string_a.now) (sym none);
-      other = inv.4 ∙ ap (λ o. put_other o c.args.string_b.now) (sym none);
-      ends = λ z. (
-        sym (climb_all plain_rule f d i p pa c.loop-i.a c.loop-i-test.false) ∙ inv.1,
-        sym (climb_all plain_rule f d i p pb c.loop-i.b c.loop-i-test.false) ∙ inv.2,
-      );
-    }
+    let i = length c.loop-sibling_a.yielded in
+    let inv = c.loop-sibling_a.invariant in
+    let n = zip_end pa pb c.loop-sibling_a.yielded c.into_iter-sibling_a-iterator.result c.loop-sibling_a.sibling_a-iterator c.next.new.self _ (cc) (cc) c.loop-sibling_a.yielded_by c.in-None.is c.next.ensures.steps in (
+      sym inv.0 ∙ no_pair f i p pa pb c.loop-sibling_a.a c.loop-sibling_a.b (omega arith) (omega arith),
+      sym (past_end plain_rule f i p pa c.loop-sibling_a.a (omega arith)) ∙ inv.1,
+      sym (past_end plain_rule f i p pb c.loop-sibling_a.b (omega arith)) ∙ inv.2,
+    )

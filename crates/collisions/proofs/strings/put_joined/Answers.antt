@@ -3,8 +3,8 @@ use Rattle.octets.proofs.Splices.{spliced_in}
 use Rattle.collisions.proofs.Joined.{joined_put}
 use Rattle.collisions.proofs.strings.put_joined.Goals as goal
 
-pub returns : goal.returns
-returns c =
+pub returns-clause-written : goal.returns-clause-written
+returns-clause-written c =
     let l = c.args.left.now in
     let r = c.args.right.now in
     let out = c.args.out.now in
