@@ -4,7 +4,6 @@ ghost use Rattle.std.specs.Prelude.{◌≡◌};
 
 use blockfile::file::BlockFile;
 use header::cell::{Axis, Cell};
-use store::question::question;
 use store::refusal::StoreRefusal;
 use store::store::Store;
 
@@ -44,8 +43,7 @@ impl Store for FileStore<'_> {
         share: &mut [u8],
         path: &mut [u8],
     ) -> Result<Option<Axis>, StoreRefusal> {
-        let h = self.file.header();
-        question(h.k as usize, h.s as usize, cell, share.len(), path.len())?;
+        self.admit(cell, share, path)?;
         let Some(found) = self.file.evidence(cell) else {
             return Ok(None);
         };
