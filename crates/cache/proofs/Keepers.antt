@@ -1,30 +1,53 @@
 -- What the kept answers give.
-use Rattle.std.proofs.Common.{◌≡◌, ℕ, zero, suc, ◌+◌, ◌-◌, ◌<◌, true, false, cond, ◌&&◌, eqb, List, [], ◌∷◌, ◌++◌, length, get_or, take, drop, set, Some, None, Option, sym, refl, ap, ◌∙◌, subst, inl, inr, arith, length-drop}
-use Rattle.std.proofs.lemmas.List.{at_drop_more, get_or_append_left, get_or-append_right, get_or-drop, set-append_right}
+use Rattle.std.proofs.Common.{◌≡◌, ℕ, zero, suc, ◌+◌, ◌-◌, Bool, true, false, cond, ◌&&◌, eqb, List, [], ◌∷◌, ◌++◌, length, get_or, take, drop, set, Some, None, Option, sym, refl, ap, ◌∙◌, subst, inl, inr, arith, length-drop}
+use Rattle.std.proofs.lemmas.List.{get_or_append_left, get_or-append_right, get_or-drop, set-append_right}
 use Rattle.std.proofs.lemmas.Bool.{eqb-true, and_parts, cases_Bool, cases_lt, cond-true, cond-false}
+use Rattle.std.proofs.lemmas.Iterator.{YieldsList}
+use Rattle.std.proofs.lemmas.Iterator.Consumers.{YieldsList-from_shown}
+use Rattle.std.specs.Bool.{MatchBool}
+use Rattle.std.specs.List.{find, flat_map}
+use Rattle.std.specs.Option.{option_to_list}
+use Rattle.std.specs.Iterator.Adapters.{option_iter_item, option_iter_done, option_iter_steps}
+use denote.Ref.{Bor}
 use Rattle.evidence.specs.Evidence.{Evidence}
 use Rattle.store.specs.Meaning.{Meaning}
 use Rattle.cache.specs.declared.kept.Kept.{Kept}
-use Rattle.cache.specs.Keeping.{Answer, Keeps, answer_in, place_in, places, pushed, kept_for}
+use Rattle.cache.specs.Keeping.{Answer, Keeps, evidence_of, answer_in, place_in, places, pushed, kept_for}
 
 -- ---- going through the places
 
-module _ (r c k s : ℕ) (ks : List (Option Kept)) (i : ℕ) where
-  pub kept_none : i < length ks → get_or ks i None ≡ None → kept_for r c (places k s (drop (i + 1) ks)) ≡ kept_for r c (places k s (drop i ks))
-  unfolding kept_for
-  kept_none h e = sym (at_drop_more (λ xs. kept_for r c (places k s xs)) ks i None h ∙ ap (λ o. kept_for r c (places k s (o ∷ drop (i + 1) ks))) e)
+-- an iterator over a place gives the answer there, if there is one
+nothing_left : {A : Type 0} (d : Bool) (o : Option A) → MatchBool d (◌≡◌ {A = Option (Bor A)} None None) (None ≡ o) → length (cond d [] (option_to_list o)) ≡ 0
+nothing_left true o h = refl
+nothing_left false o h = sym (ap (λ k. length (option_to_list k)) h)
 
-  kept_some : (v : Kept) → i < length ks → get_or ks i None ≡ Some v
-      → kept_for r c (places k s (drop i ks)) ≡ cond (eqb v.cell.row r && eqb v.cell.col c) (Some (answer_in k s v).evidence) (kept_for r c (places k s (drop (i + 1) ks)))
-  unfolding kept_for
-  kept_some v h e = at_drop_more (λ xs. kept_for r c (places k s xs)) ks i None h ∙ ap (λ o. kept_for r c (places k s (o ∷ drop (i + 1) ks))) e
+one_left : {A : Type 0} (d : Bool) (o : Option A) (x : Bor A) → MatchBool d (Some x ≡ None) (Some x.now ≡ o) → cond d [] (option_to_list o) ≡ x.now ∷ []
+one_left true o x h = let z : ◌≡◌ {A = ℕ} 0 1 = cc in absurd (omega arith)
+one_left false o x h = sym (ap option_to_list h)
 
-  pub kept_hit : (v : Kept) → i < length ks → get_or ks i None ≡ Some v → (eqb v.cell.row r && eqb v.cell.col c) ≡ true → kept_for r c (places k s (drop i ks)) ≡ Some (answer_in k s v).evidence
-  kept_hit v h e t = kept_some v h e ∙ cond-true _ (Some (answer_in k s v).evidence) _ t
+pub place_gives : {A : Type 0} (i : _) (o : Option A) → option_iter_item i ≡ o → option_iter_done i ≡ false → YieldsList option_iter_steps (λ y. y.now) i (option_to_list o)
+place_gives {A} i o e d =
+    subst (λ b. YieldsList option_iter_steps (λ y. y.now) i (cond b [] (option_to_list o))) d
+    (subst (λ k. YieldsList option_iter_steps (λ y. y.now) i (cond (option_iter_done i) [] (option_to_list k))) e
+    (YieldsList-from_shown option_iter_steps (λ y. y.now) (λ u. cond (option_iter_done u) [] (option_to_list (option_iter_item u)))
+    (λ u t h. nothing_left (option_iter_done u) (option_iter_item u) h.1)
+    (λ u x t h. one_left (option_iter_done u) (option_iter_item u) x h.1 ∙ ap (λ b. x.now ∷ cond b [] (option_to_list (option_iter_item t))) (sym h.0)) i))
 
-  pub kept_other : (v : Kept) → i < length ks → get_or ks i None ≡ Some v → (eqb v.cell.row r && eqb v.cell.col c) ≡ false
-      → kept_for r c (places k s (drop (i + 1) ks)) ≡ kept_for r c (places k s (drop i ks))
-  kept_other v h e t = sym (kept_some v h e ∙ cond-false _ (Some (answer_in k s v).evidence) _ t)
+-- the first answer for a cell is the one that is kept for it
+pub first_kept : (r c k s : ℕ) (ks : List (Option Kept)) → evidence_of (place_in k s (find (λ (v : Kept). eqb v.cell.row r && eqb v.cell.col c) (flat_map option_to_list ks))) ≡ kept_for r c (places k s ks)
+unfolding kept_for
+first_kept r c k s [] = refl
+first_kept r c k s (None ∷ ks) = first_kept r c k s ks
+first_kept r c k s (Some v ∷ ks) =
+    elim (cases_Bool (eqb v.cell.row r && eqb v.cell.col c)) [
+      | inl t ↦
+          ap (λ b. evidence_of (place_in k s (cond b (Some v) (find (λ (v : Kept). eqb v.cell.row r && eqb v.cell.col c) (flat_map option_to_list ks))))) t
+          ∙ sym (cond-true _ (Some (answer_in k s v).evidence) (kept_for r c (places k s ks)) t)
+      | inr f ↦
+          ap (λ b. evidence_of (place_in k s (cond b (Some v) (find (λ (v : Kept). eqb v.cell.row r && eqb v.cell.col c) (flat_map option_to_list ks))))) f
+          ∙ first_kept r c k s ks
+          ∙ sym (cond-false _ (Some (answer_in k s v).evidence) (kept_for r c (places k s ks)) f)
+    ]
 
 -- ---- what is found
 

@@ -6,26 +6,22 @@ ghost use Rattle.header.specs.Fields.{fields_of};
 ghost use Rattle.store.specs.Refusals.{told};
 ghost use Rattle.store.specs.Showing.{Shows, Untouched, asked};
 
-use crate::keeping::{find, keep, one_more, write_kept};
-use crate::kept::{Kept, PATH_ROOM, SHARE_ROOM};
+use crate::keeping::{find, keep, one_more};
+use crate::kept::{Kept, PATH_ROOM, PLACES, SHARE_ROOM};
 use hash::digest::Hash;
 use header::cell::{Axis, Cell};
 use header::header::Header;
 use std::marker::PhantomData;
-use store::question::question;
 use store::refusal::StoreRefusal;
 use store::store::Store;
 use store::taking::take_evidence;
-
-// How many answers are kept.
-const PLACES: usize = 8;
 
 // A store below, and the header under which its answers are checked.
 #[derive(Drop)]
 pub struct Cache<H, S> {
     below: S,
     header: Header,
-    // The answers that came last, in the order of their arrival.
+    // The answers that came last, in the order of their arrival. There is no heap, so their number is fixed.
     kept: [Option<Kept>; PLACES],
     // How many questions went below.
     count: u64,
@@ -62,13 +58,8 @@ fn ask_below<H: Hash, S: Store>(
         &mut share[0..share_len],
         &mut path[0..path_len],
     );
-    let Some(axis) = taken else {
-        return None;
-    };
-    if !fits {
-        return None;
-    }
-    Some(Kept {
+    let axis = taken?;
+    fits.then_some(Kept {
         cell,
         axis,
         share,
@@ -131,11 +122,9 @@ impl<H: Hash, S: Store> Store for Cache<H, S> {
         ensures kept { CacheOrder (S.Store.ordered self.old.below) (checked H.Hash.meaning H.Hash.kind (fields_of self.old.header) (S.Store.meaning self.old.below)) (places (S.Store.meaning self.old.below).k (S.Store.meaning self.old.below).s self.old.kept) → places (S.Store.meaning self.old.below).k (S.Store.meaning self.old.below).s self.new.kept ≡ kept_after (asked (S.Store.meaning self.old.below).k (S.Store.meaning self.old.below).s cell.row cell.col (length share.old) (length path.old)) (kept_for cell.row cell.col (places (S.Store.meaning self.old.below).k (S.Store.meaning self.old.below).s self.old.kept)) cell.row cell.col ((checked H.Hash.meaning H.Hash.kind (fields_of self.old.header) (S.Store.meaning self.old.below)).at cell.row cell.col) (places (S.Store.meaning self.old.below).k (S.Store.meaning self.old.below).s self.old.kept) }
         ensures unasked { Unasked (kept_for cell.row cell.col (places (S.Store.meaning self.old.below).k (S.Store.meaning self.old.below).s self.old.kept)) self.old self.new }
     {
-        let k = self.below.half_width();
-        let s = self.below.share_size();
-        question(k, s, cell, share.len(), path.len())?;
+        self.admit(cell, share, path)?;
         if let Some(v) = find(&self.kept, cell) {
-            write_kept(&v, share, path);
+            v.write(share, path);
             return Ok(Some(v.axis));
         }
         one_more(&mut self.count);
@@ -149,7 +138,7 @@ impl<H: Hash, S: Store> Store for Cache<H, S> {
         let Some(v) = brought else {
             return Ok(None);
         };
-        write_kept(&v, share, path);
+        v.write(share, path);
         keep(&mut self.kept, v);
         Ok(Some(v.axis))
     }

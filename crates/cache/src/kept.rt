@@ -6,7 +6,11 @@ pub const SHARE_ROOM: usize = 512;
 
 pub const PATH_ROOM: usize = 416;
 
-// The cell that was asked for, and the evidence that was shown there. Of share and path as many bytes count as the block's have.
+// How many answers a cache keeps.
+pub(crate) const PLACES: usize = 8;
+
+// The cell that was asked for, and the evidence that was shown there. There is no heap: share and path have the room of the longest
+// ones, and as many bytes count as the block's have.
 #[derive(Clone, Copy)]
 pub struct Kept {
     pub cell: Cell,

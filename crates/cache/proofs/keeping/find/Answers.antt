@@ -1,26 +1,22 @@
-use Rattle.std.proofs.Common.{sym, ◌∙◌}
-use Rattle.std.proofs.lemmas.List.{at_drop_all}
-use Rattle.cache.specs.Keeping.{kept_for, places}
-use Rattle.cache.proofs.Keepers.{kept_none, kept_hit, kept_other}
+use Rattle.std.proofs.Common.{rules, ◌≡◌, ◌&&◌, eqb, ap, ◌∙◌}
+use Rattle.std.proofs.lemmas.Iterator.{YieldsList-from_slice}
+use Rattle.std.proofs.lemmas.Iterator.Search.{find_from_yields_List}
+use Rattle.std.proofs.lemmas.Iterator.Adapters.{YieldsList-from_flatten}
+use Rattle.std.specs.List.{find, flat_map}
+use Rattle.std.specs.Option.{option_map, option_to_list}
+use borrow.Author.Tests.{tests}
+use Rattle.cache.specs.declared.kept.Kept.{Kept}
+use Rattle.cache.specs.Keeping.{evidence_of, place_in}
+use Rattle.cache.proofs.Keepers.{place_gives, first_kept}
 use Rattle.cache.proofs.keeping.find.Goals as goal
-use Rattle.cache.proofs.keeping.find.Goals.{in-Some+else-same_cell, in_default}
-
-pub returns-then-same_cell : goal.returns-then-same_cell
-returns-then-same_cell c k s =
-    let a = c.args in
-    sym (kept_hit a.cell.row a.cell.col k s a.slots.now c.loop-o.o-index c.in-Some.v c.loop-o-test.true c.in-Some.is (sym c.if-same_cell.ensures))
-    ∙ c.loop-o.invariant k s
-
-pub loop-o-preserved : goal.loop-o-preserved
-loop-o-preserved c k s =
-    let a = c.args in
-    let i = c.loop-o.o-index in
-    let h = c.loop-o-test.true in
-    elim c.match-o.branch [
-      | in-Some+else-same_cell w ↦ kept_other a.cell.row a.cell.col k s a.slots.now i w.in-Some.v h w.in-Some.is (sym w.if-same_cell.ensures) ∙ c.loop-o.invariant k s
-      | in_default w ↦ kept_none a.cell.row a.cell.col k s a.slots.now i h w.in_default.is ∙ c.loop-o.invariant k s
-    ]
 
 pub returns : goal.returns
-unfolding kept_for
-returns c k s = sym (at_drop_all (λ xs. kept_for c.args.cell.row c.args.cell.col (places k s xs)) c.args.slots.now c.loop-o.o-index c.loop-o-test.false) ∙ c.loop-o.invariant k s
+returns c k s =
+    let r = c.args.cell.row in
+    let l = c.args.cell.col in
+    let is : option_map (λ y. y.now) c.find.result ≡ find (λ (v : Kept). eqb v.cell.row r && eqb v.cell.col l) (flat_map option_to_list c.args.slots.now) =
+    find_from_yields_List (λ (v : Kept). eqb v.cell.row r && eqb v.cell.col l) _ _ c.find.result c.find.ensures.ran
+    (YieldsList-from_flatten _ _ (λ y. y.now) option_to_list (λ x j h. place_gives j x.now h.0 h.1) (YieldsList-from_slice c.args.slots.now cc) c.flatten.ensures.front c.flatten.ensures.back
+    c.flatten.ensures.done)
+    (λ x b q k. search (rules, tests)) in
+    ap (λ o. evidence_of (place_in k s o)) (c.copied.ensures ∙ is) ∙ first_kept r l k s c.args.slots.now

@@ -3,4 +3,4 @@ use Rattle.cache.proofs.Keepers.{push_set}
 use Rattle.cache.proofs.keeping.keep.Goals as goal
 
 pub returns : goal.returns
-returns c = push_set c.args.slots.now c.rotate_left.new.self (Some c.args.v) c.requires c.rotate_left.ensures.after
+returns c = push_set c.args.slots.now c.rotate_left.new.self (Some c.args.v) c.told-slots c.rotate_left.ensures.after
