@@ -1,5 +1,5 @@
 -- The steps of the loops.
-use Rattle.std.proofs.Common.{◌≡◌, ℕ, suc, ◌+◌, ◌-◌, ◌<◌, ◌≤◌, List, [], ◌∷◌, ◌++◌, length, get_or, take, set, sym, refl, ap, ◌∙◌, add-one, arith, get_or-take}
+use Rattle.std.proofs.Common.{◌≡◌, ℕ, suc, ◌+◌, ◌-◌, ◌<◌, ◌≤◌, List, [], ◌∷◌, ◌++◌, length, get_or, take, set, drop, sym, refl, ap, ◌∙◌, add-one, arith, get_or-take, length-drop, drop-cons}
 use native.Mathlib.Nat.{}
 use Rattle.std.proofs.lemmas.List.{take_more, take_more_set}
 use Rattle.sha256.specs.Compression.{round_of, constants, up_to, next_word, extended}
@@ -34,3 +34,17 @@ extend_more m w j h lt p =
 
 pub copy_more : (m w : List ℕ) (i : ℕ) → i < length w → i < length m → take i w ≡ take i m → take (i + 1) (set w i (get_or m i 0)) ≡ take (i + 1) m
 copy_more m w i lw lm p = take_more_set w i (get_or m i 0) lw ∙ ap (λ l. l ++ get_or m i 0 ∷ []) p ∙ sym (take_more m i 0 lm)
+
+-- what is left of a list from place n on begins with its item n
+pub record Dropped (n : ℕ) (xs : List ℕ) (x : ℕ) (ys : List ℕ) : Type 0 where
+  pub inside : n < length xs
+  pub here : x ≡ get_or xs n 0
+  pub rest : ys ≡ drop (n + 1) xs
+
+pub dropped : (n : ℕ) (xs : List ℕ) (x : ℕ) (ys : List ℕ) → x ∷ ys ≡ drop n xs → Dropped n xs x ys
+dropped n xs x ys e =
+    let long : suc (length ys) ≡ length xs - n = ap length e ∙ length-drop n xs in
+    let l : n < length xs = omega arith in
+    let d = drop-cons xs n 0 l in
+    let one = add-one n in
+    record { inside = l; here = cc; rest = cc }

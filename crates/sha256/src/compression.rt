@@ -95,8 +95,8 @@ fn rounds(v: Work, w: &[u32; 64]) -> Work
     ensures { vars result ≡ up_to w.now (vars v) 64 }
 {
     let mut t = v;
-    for (i, k) in K.iter().enumerate() {
-        t = round(t, *k, w[i]);
+    for (k, w) in K.iter().zip(w) {
+        t = round(t, *k, *w);
     }
     t
 }
