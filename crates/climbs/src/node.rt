@@ -12,9 +12,9 @@ use hash::refusal::DigestRefusal;
 use octets::misfit::Misfit;
 
 // The lead byte of what is hashed for a leaf, and that for a pair of nodes: so that no node passes for a leaf.
-const LEAF: u8 = 0x00;
+pub const LEAF: u8 = 0x00;
 
-const PAIR: u8 = 0x01;
+pub const PAIR: u8 = 0x01;
 
 // What stands at `place` and its sibling, the left one first.
 pub fn in_order<T>(node: T, place: usize, sibling: T) -> (T, T)

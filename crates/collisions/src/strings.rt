@@ -5,7 +5,7 @@ ghost use Rattle.hash.specs.Digests.{digest_len, parts_limit};
 ghost use Rattle.merkle.specs.Climb.{above, alone, beside, input, leaf_of, plain_rule};
 ghost use Rattle.merkle.specs.Tree.{side};
 
-use climbs::node::{in_order, join, leaf_digest};
+use climbs::node::{LEAF, PAIR, in_order, join, leaf_digest};
 use hash::digest::Hash;
 use hash::limits::DIGEST_LEN;
 use octets::splice::splice;
@@ -38,7 +38,7 @@ pub(crate) fn put_leaf(value: &[u8], out: &mut [u8]) -> usize
     ensures len { result ≡ length (input plain_rule alone value.now) }
     ensures written { out.new ≡ at_front (input plain_rule alone value.now) out.old }
 {
-    put_joined(0x00, value, &[], out)
+    put_joined(LEAF, value, &[], out)
 }
 
 // Two nodes that are hashed together, the left one first.
@@ -70,6 +70,6 @@ impl Children {
         ensures len { result ≡ length (1 ∷ (self.now.left ++ self.now.right)) }
         ensures written { out.new ≡ at_front (1 ∷ (self.now.left ++ self.now.right)) out.old }
     {
-        put_joined(0x01, &self.left, &self.right, out)
+        put_joined(PAIR, &self.left, &self.right, out)
     }
 }

@@ -9,7 +9,7 @@ use Rattle.merkle.specs.Layout.{tree_layout, tree_len, root_of, path_of}
 abbrev pub depth_limit : ℕ
 depth_limit = 16
 
--- the leaves of a tree of depth d; 0 stands for none
+-- how many leaves a tree of depth d has: none where it is too deep to be one
 abbrev pub leaf_count : ℕ → ℕ
 leaf_count d = cond (nat_le d depth_limit) (2 ^ d) 0
 

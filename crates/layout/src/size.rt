@@ -7,7 +7,8 @@ use hash::limits::DIGEST_LEN;
 // The most levels that a tree here has above its leaves.
 pub const DEPTH_LIMIT: usize = 16;
 
-// The leaves of a tree of this depth; none where it is too deep.
+// How many leaves a tree of this depth has. One that is too deep is no tree and has none: a count needs no `Option` to say so, and a
+// place is a leaf's just where it is below the count.
 pub fn leaves(depth: usize) -> usize
     ensures { result ≡ leaf_count depth }
 {
