@@ -2,7 +2,7 @@
 use Rattle.std.proofs.Common.{◌≡◌, ℕ, ◌+◌, ◌*◌, ◌≤◌, Bool, true, false, cond, not, ◌&&◌, eqb, List, length, get_or, take, drop, Ok, Err, Result, sym, refl, ap, ◌∙◌, arith, length-drop, length-take-le, drop-drop, Bor}
 use Rattle.std.proofs.lemmas.Bool.{eqb-true}
 use Rattle.std.proofs.lemmas.Bool.Decides.{nat_tests}
-use Rattle.octets.specs.Outcome.{Refused, plain}
+use Rattle.octets.specs.Outcome.{Refused, plain, outcome_by}
 use Rattle.hash.specs.Digests.{digest_len}
 use Rattle.erasure.specs.Limits.{ok_width, ok_size}
 use Rattle.header.specs.Fields.{Fields, header_outcome}
@@ -70,6 +70,10 @@ not_roots (Share p s q) rs e n = let z : ◌≡◌ {A = ℕ} 0 1 = cc in omega a
 not_roots GroupEnd rs e n = let z : ◌≡◌ {A = ℕ} 0 1 = cc in omega arith
 not_roots (Claim a i r q) rs e n = let z : ◌≡◌ {A = ℕ} 0 1 = cc in omega arith
 not_roots (Witness p a s q) rs e n = let z : ◌≡◌ {A = ℕ} 0 1 = cc in omega arith
+
+pub not_refused : {A E : Type 0} (view : A → Fields) (told : E → Refused) (r : Result A E) (g : Fields) → outcome_by view told r ≡ Ok g → ((x : A) → r ≡ Ok x → ⊥) → ⊥
+not_refused view told (Ok x) g e n = n x refl
+not_refused view told (Err d) g e n = let z : ◌≡◌ {A = ℕ} 0 1 = cc in omega arith
 
 -- the header g that was read
 pub record Head (bs : List ℕ) (g : Fields) : Type 0 where

@@ -22,7 +22,7 @@ use Rattle.blockfile.specs.declared.walk.Walk.{Walk}
 use Rattle.blockfile.specs.declared.point.Point.{Point}
 use Rattle.blockfile.specs.declared.point.Point.TheVariants.{Between, Inside}
 use Rattle.blockfile.specs.declared.refusal.FileRefusal.{FileRefusal}
-use Rattle.blockfile.specs.Index.{indexed, evidence_by, marked}
+use Rattle.blockfile.specs.Index.{indexed, evidence_by, marked, no_places}
 use Rattle.blockfile.specs.Opening.{closed, Walks}
 use Rattle.blockfile.specs.Refusals.{told}
 use Rattle.blockfile.specs.Steps.{Held, held, LineLow, noting, go}
@@ -151,25 +151,25 @@ nothing_there n i = elim (cases_Bool (ltb i n)) [
 ]
 
 -- an index that names no record says nothing of every cell
-pub empty_standing : (h : Fields) (bs : List ℕ) (ix : Index) → ix.at ≡ replicate 4096 0 → ix.axis ≡ replicate {A = Axis} 4096 Row → Standing h bs [] ix
+pub empty_standing : (h : Fields) (bs : List ℕ) (ix : Index) → ix ≡ no_places → Standing h bs [] ix
 unfolding indexed shown_in
-empty_standing h bs ix ea ec = record {
-  kept = λ r c. ap (λ l. cond (has_cell h r c) (evidence_by h bs (get_or l (cell_number h r c) 0) (get_or ix.axis (cell_number h r c) Row)) None) ea
+empty_standing h bs ix e = record {
+  kept = λ r c. ap (λ l. cond (has_cell h r c) (evidence_by h bs (get_or l (cell_number h r c) 0) (get_or ix.axis (cell_number h r c) Row)) None) (ap (λ i. i.at) e)
       ∙ ap (λ p. cond (has_cell h r c) (evidence_by h bs p (get_or ix.axis (cell_number h r c) Row)) None) (nothing_there 4096 (cell_number h r c))
       ∙ same_both (has_cell h r c);
-  within = λ i l some'. absurd (some' (ap (λ p. get_or p i 0) ea ∙ nothing_there 4096 i));
-  at_long = ap length ea ∙ length-replicate {A = ℕ} 4096 0;
-  axis_long = ap length ec ∙ length-replicate {A = Axis} 4096 Row;
+  within = λ i l some'. absurd (some' (ap (λ p. get_or p i 0) (ap (λ j. j.at) e) ∙ nothing_there 4096 i));
+  at_long = ap (λ i. length i.at) e ∙ length-replicate {A = ℕ} 4096 0;
+  axis_long = ap (λ i. length i.axis) e ∙ length-replicate {A = Axis} 4096 Row;
 }
   where
     same_both : (b : Bool) → ◌≡◌ {A = Option Evidence} (cond b None None) None
     same_both true = refl
     same_both false = refl
 
-pub starts : (h : Fields) (bs : List ℕ) (start : ℕ) (ix : Index) → 0 < start → start ≤ length bs → ix.at ≡ replicate 4096 0 → ix.axis ≡ replicate {A = Axis} 4096 Row → Walking h bs start Between ix start
-starts h bs start ix some le ea ec = record {
+pub starts : (h : Fields) (bs : List ℕ) (start : ℕ) (ix : Index) → 0 < start → start ≤ length bs → ix ≡ no_places → Walking h bs start Between ix start
+starts h bs start ix some le e = record {
   shares = [];
-  standing = empty_standing h bs ix ea ec;
+  standing = empty_standing h bs ix e;
   low = refl;
   some = some;
   inside = le;

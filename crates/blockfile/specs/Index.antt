@@ -1,6 +1,6 @@
 -- The index of an opened file: for each cell the byte place of its share record, and by which axis it came. No share record begins at
 -- place 0, so 0 stands for none.
-use Rattle.std.specs.Prelude.{ℕ, ◌+◌, ◌<◌, ◌≤◌, cond, List, take, drop, Some, None, Option, ◌==◌, ◌≢◌, slice_index, slice_index_or, slice_set}
+use Rattle.std.specs.Prelude.{ℕ, ◌+◌, ◌<◌, ◌≤◌, cond, List, take, drop, replicate, Some, None, Option, ◌==◌, ◌≢◌, slice_index, slice_index_or, slice_set}
 use Rattle.header.specs.declared.cell.Axis.{Axis}
 use Rattle.header.specs.declared.cell.Axis.TheVariants.{Row}
 use Rattle.header.specs.Fields.{Fields}
@@ -12,6 +12,10 @@ use Rattle.blockfile.specs.declared.index.Place.{Place}
 -- the share record of a cell, by the cell's number
 abbrev pub entry_of : Index → ℕ → Option Place
 entry_of ix n = cond (slice_index ix.at n == 0) None (Some (record { at = slice_index ix.at n; axis = slice_index_or ix.axis n Row }))
+
+-- the index that has no share record
+abbrev pub no_places : Index
+no_places = record { at = replicate 4096 0; axis = replicate 4096 Row }
 
 -- the index with one more share record
 abbrev pub marked : Index → ℕ → ℕ → Axis → Index

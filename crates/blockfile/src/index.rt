@@ -1,7 +1,6 @@
 // From cells to the records of a file.
-ghost use Rattle.blockfile.specs.Index.{entry_of, marked};
-ghost use Rattle.std.specs.Prelude.{◌≡◌, ◌<◌, replicate};
-ghost use Rattle.header.specs.declared.cell.Axis.TheVariants.{Row};
+ghost use Rattle.blockfile.specs.Index.{entry_of, marked, no_places};
+ghost use Rattle.std.specs.Prelude.{◌≡◌, ◌<◌};
 
 use header::cell::Axis;
 
@@ -28,8 +27,7 @@ const _: () = prove!(size_of::<Index>() == 20480);
 impl Index {
     // No share is noted.
     pub(crate) fn empty() -> Index
-        ensures places { result.at ≡ replicate 4096 0 }
-        ensures axes { result.axis ≡ replicate 4096 Row }
+        ensures { result ≡ no_places }
     {
         Index {
             at: [0; CELLS],

@@ -24,7 +24,7 @@ use wire::refusal::Fault;
 pub const FILE_LIMIT: usize = 4194304;
 
 // Reads the header record in front of a file. Before it is read nothing is known of a block, and a header record is read alike in every
-// block.
+// block. The reader gives nothing but what is due, with k and s in range, so the two refusals here are never met.
 fn read_header(reader: &mut Reader) -> Result<Header, FileRefusal>
     requires { reader.old.at ≡ 0 }
     ensures read { HeadRead reader.old.bytes.now result }
@@ -43,13 +43,13 @@ fn read_header(reader: &mut Reader) -> Result<Header, FileRefusal>
     else {
         return Err(refused(Fault::NotDue, at));
     };
-    match make_header(k as usize, s as usize, hash_kind, code_kind, data_root) {
-        Ok(header) => Ok(header),
-        Err(_) => Err(refused(Fault::NotDue, at)),
-    }
+    let Ok(header) = make_header(k as usize, s as usize, hash_kind, code_kind, data_root) else {
+        return Err(refused(Fault::OutOfRange, at));
+    };
+    Ok(header)
 }
 
-// Reads the roots record behind the header record.
+// Reads the roots record behind the header record; the refusal here is never met.
 fn read_roots<'a>(h: &Header, reader: &mut Reader<'a>) -> Result<&'a [u8], FileRefusal>
     requires { reader.old.at ≡ roots_place }
     ensures read { MatchResult result (λ rs. RootsAre (fields_of h.now) reader.old.bytes.now rs.now) (λ e. reads_at (fields_of h.now) Roots roots_place (drop roots_place reader.old.bytes.now) ≡ Err (told e)) }
@@ -91,6 +91,7 @@ pub fn open_file<'a>(file: &mut BlockFile<'a>, bytes: &'a [u8]) -> Result<(), Fi
     let roots = read_roots(&header, &mut reader)?;
     let mut walk = Walk::new(header);
     walk.run(reader)?;
+    // Field by field, so that no second table of the cells is made.
     file.header = header;
     file.roots = roots;
     file.bytes = bytes;

@@ -1,5 +1,6 @@
 // What the records of a file do.
-ghost use Rattle.std.specs.Prelude.{◌≡◌, ◌<◌, ◌≤◌, true, [], length, replicate, Ok};
+ghost use Rattle.std.specs.Prelude.{◌≡◌, ◌<◌, ◌≤◌, true, [], length, Ok};
+ghost use Rattle.blockfile.specs.Index.{no_places};
 ghost use Rattle.blockfile.specs.Opening.{Walks, after_it, closed};
 ghost use Rattle.blockfile.specs.Refusals.{told};
 ghost use Rattle.blockfile.specs.Steps.{go, held, noting};
@@ -9,7 +10,6 @@ ghost use Rattle.octets.specs.Outcome.{outcome, outcome_by};
 ghost use Rattle.header.specs.Fields.{fields_of};
 ghost use Rattle.header.specs.Lines.{axis_by, col_at, row_at};
 ghost use Rattle.header.specs.Sizes.{cell_number, width};
-ghost use Rattle.header.specs.declared.cell.Axis.TheVariants.{Row};
 ghost use Rattle.wire.specs.Parts.{value_of};
 ghost use Rattle.wire.specs.Reading.{in_range};
 
@@ -28,8 +28,7 @@ impl Walk {
     pub(crate) fn new(header: Header) -> Walk
         ensures header { result.header ≡ header }
         ensures point { result.point ≡ Between }
-        ensures places { result.index.at ≡ replicate 4096 0 }
-        ensures axes { result.index.axis ≡ replicate 4096 Row }
+        ensures index { result.index ≡ no_places }
     {
         Walk {
             header,
@@ -109,7 +108,7 @@ impl Walk {
     // Notes the shares of all groups, to the first of which a reader of the file has come.
     pub(crate) fn run(&mut self, mut reader: Reader) -> Result<(), FileRefusal>
         requires file { (0 < reader.at) × (length reader.bytes.now ≤ file_limit) }
-        requires fresh { (self.old.point ≡ Between) × ((self.old.index.at ≡ replicate 4096 0) × (self.old.index.axis ≡ replicate 4096 Row)) }
+        requires fresh { (self.old.point ≡ Between) × (self.old.index ≡ no_places) }
         ensures { Walks (fields_of self.old.header) reader.entry.bytes.now reader.entry.at result self.new.index }
     {
         while !reader.is_at_end() {

@@ -1,7 +1,7 @@
 // What the bodies of records say. Their lengths were compared before.
-ghost use Rattle.std.specs.Prelude.{◌≡◌, ◌+◌, ◌*◌, true, length};
+ghost use Rattle.std.specs.Prelude.{◌≡◌, ◌≤◌, ◌+◌, ◌*◌, true, length};
 ghost use Rattle.hash.specs.Digests.{digest_len};
-ghost use Rattle.header.specs.Fields.{fields_of};
+ghost use Rattle.header.specs.Fields.{Fields, fields_of};
 ghost use Rattle.header.specs.Sizes.{claim_body, group_body, header_body, share_body, witness_body};
 ghost use Rattle.wire.specs.Parts.{Begins, value_of};
 ghost use Rattle.wire.specs.Kinds.{code_of};
@@ -12,10 +12,10 @@ use crate::record::Record;
 use hash::limits::DIGEST_LEN;
 use header::header::Header;
 
-fn header_in<'a>(h: &Header, body: &'a [u8]) -> Record<'a>
+fn header_in<'a>(body: &'a [u8]) -> Record<'a>
     requires { length body.now ≡ header_body }
     ensures value { value_of result ≡ header_in body.now }
-    ensures place { Begins (fields_of h.now) body.entry.ref_ptr result }
+    ensures place { (h : Fields) → Begins h body.entry.ref_ptr result }
 {
     Record::Header {
         k: u16::from_le_bytes([body[0], body[1]]),
@@ -26,10 +26,10 @@ fn header_in<'a>(h: &Header, body: &'a [u8]) -> Record<'a>
     }
 }
 
-fn group_in<'a>(h: &Header, body: &'a [u8]) -> Record<'a>
+fn group_in<'a>(body: &'a [u8]) -> Record<'a>
     requires { length body.now ≡ group_body }
     ensures value { value_of result ≡ group_in body.now }
-    ensures place { Begins (fields_of h.now) body.entry.ref_ptr result }
+    ensures place { (h : Fields) → Begins h body.entry.ref_ptr result }
 {
     Record::Group {
         axis: body[0],
@@ -50,10 +50,10 @@ fn share_in<'a>(h: &Header, body: &'a [u8]) -> Record<'a>
     }
 }
 
-fn claim_in<'a>(h: &Header, body: &'a [u8]) -> Record<'a>
-    requires { length body.now ≡ claim_body (fields_of h.now) }
+fn claim_in<'a>(body: &'a [u8]) -> Record<'a>
+    requires { 3 + digest_len ≤ length body.now }
     ensures value { value_of result ≡ claim_in body.now }
-    ensures place { Begins (fields_of h.now) body.entry.ref_ptr result }
+    ensures place { (h : Fields) → Begins h body.entry.ref_ptr result }
 {
     let cut = 3 + DIGEST_LEN;
     Record::Claim {
@@ -87,12 +87,12 @@ pub(crate) fn record_in<'a>(h: &Header, kind: Kind, body: &'a [u8]) -> Record<'a
     ensures place { Begins (fields_of h.now) body.entry.ref_ptr result }
 {
     match kind {
-        Kind::Header => header_in(h, body),
+        Kind::Header => header_in(body),
         Kind::Roots => Record::Roots(body),
-        Kind::Group => group_in(h, body),
+        Kind::Group => group_in(body),
         Kind::Share => share_in(h, body),
         Kind::GroupEnd => Record::GroupEnd,
-        Kind::Claim => claim_in(h, body),
+        Kind::Claim => claim_in(body),
         Kind::Witness => witness_in(h, body),
     }
 }

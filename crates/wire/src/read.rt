@@ -32,6 +32,7 @@ pub fn read_due<'a>(h: &Header, due: Due, bytes: &'a [u8]) -> Result<(Record<'a>
     };
     let len = u32::from_le_bytes([*l0, *l1, *l2, *l3]) as usize;
     let code = u16::from_le_bytes([*k0, *k1]);
+    // Cut by ranges, since split_at_checked does not promise where its parts lie.
     if rest.len() < len {
         return Err(Fault::CutShort);
     }

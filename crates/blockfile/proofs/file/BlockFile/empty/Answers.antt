@@ -4,7 +4,7 @@ use Rattle.blockfile.proofs.Walks.{empty_standing}
 use Rattle.blockfile.proofs.file.BlockFile.empty.Goals as goal
 
 pub invariant_of-result : goal.invariant_of-result
-invariant_of-result c = record { within = (empty_standing (fields_of c.smallest.result) [] c.empty.result c.empty.ensures.places c.empty.ensures.axes).within }
+invariant_of-result c = record { within = (empty_standing (fields_of c.smallest.result) [] c.empty.result c.empty.ensures).within }
 
 pub returns : goal.returns
-returns c = record { head = c.smallest.ensures; roots_are = refl; cells = (empty_standing (fields_of c.smallest.result) [] c.empty.result c.empty.ensures.places c.empty.ensures.axes).kept }
+returns c = record { head = c.smallest.ensures; roots_are = refl; cells = (empty_standing (fields_of c.smallest.result) [] c.empty.result c.empty.ensures).kept }

@@ -19,7 +19,7 @@ loop-reader-init c =
     record {
       header = refl;
       bytes = refl;
-      walking = subst (λ p. Walking (fields_of w.header) r.bytes.now r.at p w.index r.at) (sym c.requires.fresh.0) (starts (fields_of w.header) r.bytes.now r.at w.index c.requires.file.0 r.inside c.requires.fresh.1.0 c.requires.fresh.1.1);
+      walking = subst (λ p. Walking (fields_of w.header) r.bytes.now r.at p w.index r.at) (sym c.requires.fresh.0) (starts (fields_of w.header) r.bytes.now r.at w.index c.requires.file.0 r.inside c.requires.fresh.1);
     }
 
 pub returns-in_err-item : goal.returns-in_err-item
