@@ -1,11 +1,15 @@
 -- Where the parts of an image stand.
-use Rattle.std.proofs.Common.{◌≡◌, ℕ, ◌+◌, ◌*◌, ◌<◌, ◌≤◌, true, eqb, inl, inr, arith}
+use Rattle.std.proofs.Common.{◌≡◌, ℕ, ◌+◌, ◌-◌, ◌*◌, ◌<◌, ◌≤◌, true, cond, not, eqb, List, length, take, drop, Ok, Err, length-drop, inl, inr, sym, ap, ap₂, ◌∙◌, arith}
 use Rattle.std.proofs.lemmas.Nat.{mul-add-lt, mul-le}
 use Rattle.std.proofs.lemmas.Bool.{or_cases, eqb-true}
 use Rattle.octets.proofs.Shares.{share_inside}
+use Rattle.std.proofs.lemmas.List.{length-take-le}
+use Rattle.octets.specs.Outcome.{plain}
+use Rattle.header.specs.Fields.{Fields, shape, header_outcome}
 use Rattle.header.specs.Sizes.{image_len}
+use Rattle.header.proofs.Made.{made}
 use Rattle.store.specs.Meaning.{block}
-use Rattle.memory.specs.Images.{image_held}
+use Rattle.memory.specs.Images.{image_held, open_outcome}
 
 -- the share of cell (r, c) in a square of width w
 pub record Spot (w s r c : ℕ) : Type 0 where
@@ -44,3 +48,17 @@ whole_image k s n held some =
       | inl t ↦ absurd (some (eqb-true n 0 t))
       | inr t ↦ eqb-true n (image_len (block k s)) t
     ]
+
+-- with those that a header was made of only the length counts
+pub open_allowed : (k s n : ℕ) (h : Fields) → Ok h ≡ header_outcome (shape k s) → open_outcome k s n ≡ cond (not (eqb n (image_len h))) (Err (plain 3)) (Ok tt)
+open_allowed k s n h e =
+    let m = made (shape k s) h e in
+    ap₂ (λ w z. cond (not w) (Err (plain 1)) (cond (not z) (Err (plain 2)) (cond (not (eqb n (image_len (block k s)))) (Err (plain 3)) (Ok tt)))) m.wide m.sized
+    ∙ ap (λ (x : Fields). cond (not (eqb n (image_len x))) (Err (plain 3)) (Ok tt)) (sym m.same)
+
+-- a part of n bytes from place `at` on, as `&image[at..at + n]` reads it
+pub part_is : (at n : ℕ) (image : List ℕ) → take (at + n - at) (drop at image) ≡ take n (drop at image)
+part_is at n image = let e : at + n - at ≡ n = omega arith in ap (λ (k : ℕ). take k (drop at image)) e
+
+pub part_long : (at n : ℕ) (image : List ℕ) → at + n ≤ length image → length (take (at + n - at) (drop at image)) ≡ n
+part_long at n image h = ap length (part_is at n image) ∙ length-take-le n (drop at image) (omega (arith, length-drop at image))

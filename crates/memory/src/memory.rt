@@ -8,34 +8,19 @@ ghost use Rattle.store.specs.Refusals.{told};
 ghost use Rattle.store.specs.Showing.{Untouched};
 
 use crate::read::{put_path, put_share};
-use erasure::limits::{ok_size, ok_width};
-use hash::limits::DIGEST_LEN;
 use header::cell::{Axis, Cell};
 use header::header::Header;
-use store::question::question;
+use store::question::shape_of;
 use store::refusal::StoreRefusal;
 use store::store::Store;
 
-// A lent image, and a header of its k and share size. Before it is opened it has no image.
+// A lent image, and a header of its k and share size. Before it is opened it has no bytes; no image is empty, so that says the same as
+// an Option would.
 #[derive(Drop)]
 pub struct Memory<'a> {
     image: &'a [u8],
     shape: Header,
     ghost whole: { image_held shape.k shape.s (length image.now) ≡ true },
-}
-
-// A header of this k and this share size, for its lengths and cells alone.
-fn shape_of(k: usize, s: usize) -> Header
-    requires { (ok_width k ≡ true) × (ok_size s ≡ true) }
-    ensures { (result.k ≡ k) × (result.s ≡ s) }
-{
-    Header {
-        k: k as u16,
-        s: s as u16,
-        hash_kind: 0,
-        code_kind: 0,
-        data_root: [0u8; DIGEST_LEN],
-    }
 }
 
 impl<'a> Memory<'a> {
@@ -46,7 +31,7 @@ impl<'a> Memory<'a> {
     {
         Memory {
             image: &[],
-            shape: shape_of(1, 1),
+            shape: Header::smallest(),
         }
     }
 
@@ -57,13 +42,7 @@ impl<'a> Memory<'a> {
         ensures refused { Untouched (open_outcome k s (length image.now)) self.old self.new }
         ensures laid { LaidOut k s image.now }
     {
-        if !ok_width(k) {
-            return Err(StoreRefusal::WrongWidth);
-        }
-        if !ok_size(s) {
-            return Err(StoreRefusal::WrongShareSize);
-        }
-        let shape = shape_of(k, s);
+        let shape = shape_of(k, s)?;
         if image.len() != shape.lengths().image {
             return Err(StoreRefusal::WrongLength);
         }
@@ -93,9 +72,7 @@ impl Store for Memory<'_> {
         share: &mut [u8],
         path: &mut [u8],
     ) -> Result<Option<Axis>, StoreRefusal> {
-        let k = self.shape.k as usize;
-        let s = self.shape.s as usize;
-        question(k, s, cell, share.len(), path.len())?;
+        self.admit(cell, share, path)?;
         if self.image.len() == 0 {
             return Ok(None);
         }

@@ -18,25 +18,17 @@ pub(crate) fn put_share(h: &Header, image: &[u8], cell: Cell, out: &mut [u8])
     ensures { out.new ≡ cell_share (fields_of h.now) image.now cell.row cell.col }
 {
     let n = h.lengths();
-    let size = n.share;
-    let at = cell.row as usize * n.width + cell.col as usize;
-    out.copy_from_slice(&image[at * size..at * size + size]);
+    let at = (cell.row as usize * n.width + cell.col as usize) * n.share;
+    out.copy_from_slice(&image[at..at + n.share]);
 }
 
-// Writes the path of a place in a tree of this depth, which begins at byte `start` of the image and has `size` bytes.
-fn put_tree_path(
-    image: &[u8],
-    start: usize,
-    size: usize,
-    depth: usize,
-    place: usize,
-    out: &mut [u8],
-)
-    requires tree { (depth ≤ 7) × ((size ≡ tree_len depth) × ((place < 2 ^ depth) × (start ≤ 4194304))) }
-    requires room { (size ≤ 8160) × ((start + size ≤ length image.now) × (length out.old ≡ digest_len * depth)) }
-    ensures { out.new ≡ path_of depth place (take size (drop start image.now)) }
+// Writes the path of a place in a tree of this depth.
+fn put_tree_path(tree: &[u8], depth: usize, place: usize, out: &mut [u8])
+    requires tree { (depth ≤ 7) × ((length tree.now ≡ tree_len depth) × (place < 2 ^ depth)) }
+    requires room { length out.old ≡ digest_len * depth }
+    ensures { out.new ≡ path_of depth place tree.now }
 {
-    tree_path(&image[start..start + size], depth, place, out);
+    let _ = tree_path(tree, depth, place, out);
 }
 
 // Writes the path of a cell by its row: in the row's tree, and then in the data tree.
@@ -47,21 +39,19 @@ pub(crate) fn put_path(h: &Header, image: &[u8], cell: Cell, path: &mut [u8])
 {
     let n = h.lengths();
     let row = cell.row as usize;
-    let cut = n.axis_path;
+    let start = n.square + row * n.axis_tree;
+    let last = n.square + n.width * n.axis_tree;
+    let (axis_path, data_path) = path.split_at_mut(n.axis_path);
     put_tree_path(
-        image,
-        n.square + row * n.axis_tree,
-        n.axis_tree,
+        &image[start..start + n.axis_tree],
         n.depth,
         cell.col as usize,
-        &mut path[0..cut],
+        axis_path,
     );
     put_tree_path(
-        image,
-        n.square + n.width * n.axis_tree,
-        n.data_tree,
+        &image[last..last + n.data_tree],
         n.depth + 1,
         row,
-        &mut path[cut..],
+        data_path,
     );
 }

@@ -33,15 +33,6 @@ overflow_mul-at-2 c =
     let s = spot n.width n.share c.args.cell.row c.args.cell.col (omega arith) (omega arith) m.wide m.sized in
     omega arith
 
-pub overflow_mul-at-3 : goal.overflow_mul-at-3
-overflow_mul-at-3 c =
-    let h = c.args.h.now in
-    let n = c.lengths-n.result in
-    let m = measured (fields_of h) n h.width h.size c.lengths-n.ensures in
-    let w : n.width ≡ 2 * h.k = ap (λ l. l.width) c.lengths-n.ensures in
-    let s = spot n.width n.share c.args.cell.row c.args.cell.col (omega arith) (omega arith) m.wide m.sized in
-    omega arith
-
 pub overflow_add-at-2 : goal.overflow_add-at-2
 overflow_add-at-2 c =
     let h = c.args.h.now in

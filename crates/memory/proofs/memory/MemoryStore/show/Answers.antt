@@ -1,8 +1,8 @@
-use Rattle.std.proofs.Common.{◌≡◌, not, length, Some, None, Ok, sym, refl, ap, ◌∙◌}
+use Rattle.std.proofs.Common.{◌≡◌, not, length, Some, None, Ok, sym, refl, ap}
 use Rattle.std.proofs.lemmas.Bool.{and_from, ne_eqb, lt-ltb, cond-true}
 use Rattle.store.specs.Meaning.{Meaning, block}
 use Rattle.store.specs.Showing.{asked}
-use Rattle.store.proofs.Asking.{question_is, admitted, shows_this, untouched_free}
+use Rattle.store.proofs.Asking.{admitted, shows_this, untouched_free}
 use Rattle.memory.specs.Images.{row_tree_in, data_tree_in, row_evidence, image_meaning}
 use Rattle.memory.proofs.Spots.{whole_image}
 use Rattle.memory.proofs.memory.MemoryStore.show.Goals as goal
@@ -13,7 +13,7 @@ put_share-requires c =
     let me = a.self.now in
     let m : Meaning = image_meaning me.image.now me.shape.k me.shape.s in
     let free : asked m.k m.s a.cell.row a.cell.col (length a.share.now) (length a.path.now) ≡ Ok tt =
-    sym (c.in_ok-question.ensures ∙ question_is m (me.shape.width, me.shape.size) m.k m.s a.cell.row a.cell.col _ _ refl refl) in
+    sym c.in_ok-admit.ensures in
     let t = admitted m.k m.s a.cell.row a.cell.col _ _ free in
     record {
       cell = (t.row, t.col);
@@ -26,7 +26,7 @@ put_path-requires c =
     let me = a.self.now in
     let m : Meaning = image_meaning me.image.now me.shape.k me.shape.s in
     let free : asked m.k m.s a.cell.row a.cell.col (length a.share.now) (length a.path.now) ≡ Ok tt =
-    sym (c.in_ok-question.ensures ∙ question_is m (me.shape.width, me.shape.size) m.k m.s a.cell.row a.cell.col _ _ refl refl) in
+    sym c.in_ok-admit.ensures in
     let t = admitted m.k m.s a.cell.row a.cell.col _ _ free in
     record {
       cell = (t.row, t.col);
@@ -42,7 +42,7 @@ returns c =
     let r = a.cell.row in
     let col = a.cell.col in
     let free : asked m.k m.s r col (length a.share.now) (length a.path.now) ≡ Ok tt =
-    sym (c.in_ok-question.ensures ∙ question_is m (me.shape.width, me.shape.size) m.k m.s r col _ _ refl refl) in
+    sym c.in_ok-admit.ensures in
     let t = admitted m.k m.s r col _ _ free in
     let here : m.at r col ≡ Some (row_evidence (block m.k m.s) me.image.now r col) =
     cond-true _ (Some (row_evidence (block m.k m.s) me.image.now r col)) None
