@@ -1,7 +1,8 @@
 -- What follows of the lengths of a block from an allowed k and an allowed share size.
 use Rattle.std.proofs.Common.{◌≡◌, ℕ, ◌+◌, ◌-◌, ◌*◌, ◌^◌, ◌<◌, ◌≤◌, Bool, true, ◌||◌, eqb, sym, refl, ap, ◌∙◌, subst, inl, inr, pow-suc, add-one, arith}
 use Rattle.std.proofs.lemmas.Nat.{mul-le, mul-add-lt}
-use Rattle.std.proofs.lemmas.Bool.{or_cases, eqb-true}
+use Rattle.std.proofs.lemmas.Bool.{or_cases, eqb-true, cases_lt, cases_eq}
+use Rattle.std.proofs.Math.Pow.{pow-lt}
 use Rattle.std.proofs.lemmas.Bool.Decides.{nat_tests}
 use Rattle.erasure.specs.Limits.{ok_width, ok_size}
 use Rattle.erasure.proofs.Bounds.{width_most, width_some, size_most, size_some}
@@ -32,6 +33,27 @@ depth_most k = grind (arith, nat_tests)
 pub depth_power : (k : ℕ) → ok_width k ≡ true → 2 ^ depth_of k ≡ 2 * k
 unfolding depth_of
 depth_power k w = width_cases k w (λ k. 2 ^ depth_of k ≡ 2 * k) refl refl refl refl refl refl
+
+-- so the largest power of two that is no larger than k is one level below them
+pub depth_by_power : (k r : ℕ) → ok_width k ≡ true → 2 ^ r ≤ k → k < 2 * 2 ^ r → r + 1 ≡ depth_of k
+depth_by_power k r w low high =
+    let whole : 2 ^ depth_of k ≡ 2 * k = depth_power k w in
+    let one : 2 ^ (r + 1) ≡ 2 ^ r * 2 = ap (λ i. 2 ^ i) (add-one r) ∙ pow-suc 2 r in
+    let two : 2 ^ (r + 1 + 1) ≡ 2 ^ (r + 1) * 2 = ap (λ i. 2 ^ i) (add-one (r + 1)) ∙ pow-suc 2 (r + 1) in
+    elim (cases_lt (depth_of k) (r + 1)) [
+      | inl l ↦ let p : 2 ^ depth_of k < 2 ^ (r + 1) = pow-lt l in absurd (omega arith)
+      | inr m ↦
+          elim (cases_eq (r + 1) (depth_of k)) [
+            | inl e ↦ e
+            | inr d ↦
+                elim (cases_eq (r + 1 + 1) (depth_of k)) [
+                  | inl e ↦ let p : 2 ^ (r + 1 + 1) ≡ 2 ^ depth_of k = ap (λ i. 2 ^ i) e in absurd (omega arith)
+                  | inr n ↦
+                      let l : r + 1 + 1 < depth_of k = omega arith in
+                      let p : 2 ^ (r + 1 + 1) < 2 ^ depth_of k = pow-lt l in absurd (omega arith)
+                ]
+          ]
+    ]
 
 -- the data tree has twice as many
 pub depth_above : (k : ℕ) → ok_width k ≡ true → 2 ^ (depth_of k + 1) ≡ 2 * (2 * k)

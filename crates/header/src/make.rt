@@ -25,17 +25,15 @@ pub fn make_header(
     if !ok_size(s) {
         return Err(SquareRefusal::WrongShareSize);
     }
-    if data_root.len() != DIGEST_LEN {
+    let Ok(data_root) = data_root.try_into() else {
         return Err(SquareRefusal::WrongLength);
-    }
-    let mut root = [0u8; DIGEST_LEN];
-    root.copy_from_slice(data_root);
+    };
     Ok(Header {
         k: k as u16,
         s: s as u16,
         hash_kind,
         code_kind,
-        data_root: root,
+        data_root,
     })
 }
 

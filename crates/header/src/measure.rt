@@ -14,14 +14,8 @@ impl Header {
         ensures value { result ≡ depth (fields_of self.now) }
         ensures small { result ≤ 6 }
     {
-        match self.k {
-            1 => 1,
-            2 => 2,
-            4 => 3,
-            8 => 4,
-            16 => 5,
-            _ => 6,
-        }
+        // k is a power of two, and the width is twice it.
+        self.k.ilog2() as usize + 1
     }
 
     // Every length that belongs to the block.

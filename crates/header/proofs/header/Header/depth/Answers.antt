@@ -1,28 +1,14 @@
-use Rattle.std.proofs.Common.{arith}
-use Rattle.std.proofs.lemmas.Bool.Decides.{nat_tests}
+use Rattle.std.proofs.Common.{◌≡◌, ℕ, ◌+◌, arith}
+use Rattle.erasure.proofs.Bounds.{width_some}
 use Rattle.header.specs.Sizes.{depth_of}
+use Rattle.header.proofs.Measures.{depth_by_power, depth_most}
 use Rattle.header.proofs.header.Header.depth.Goals as goal
 
-pub returns-in-1 : goal.returns-in-1
-unfolding depth_of
-returns-in-1 c = record { value = grind (arith, nat_tests); small = omega arith }
+pub ilog2-requires : goal.ilog2-requires
+ilog2-requires c = width_some c.args.self.now.k c.args.self.now.width
 
-pub returns-in-2 : goal.returns-in-2
-unfolding depth_of
-returns-in-2 c = record { value = grind (arith, nat_tests); small = omega arith }
-
-pub returns-in-4 : goal.returns-in-4
-unfolding depth_of
-returns-in-4 c = record { value = grind (arith, nat_tests); small = omega arith }
-
-pub returns-in-8 : goal.returns-in-8
-unfolding depth_of
-returns-in-8 c = record { value = grind (arith, nat_tests); small = omega arith }
-
-pub returns-in-16 : goal.returns-in-16
-unfolding depth_of
-returns-in-16 c = record { value = grind (arith, nat_tests); small = omega arith }
-
-pub returns-in_default : goal.returns-in_default
-unfolding depth_of
-returns-in_default c = record { value = grind (arith, nat_tests); small = omega arith }
+pub returns : goal.returns
+returns c =
+    let k : ℕ = c.args.self.now.k in
+    let e : c.ilog2.result + 1 ≡ depth_of k = depth_by_power k c.ilog2.result c.args.self.now.width c.ilog2.ensures.power_le c.ilog2.ensures.next_power_gt in
+    record { value = e; small = omega (arith, e, depth_most k) }
