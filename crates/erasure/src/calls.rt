@@ -51,11 +51,10 @@ pub(crate) fn holds(k: usize, size: usize, n: usize) -> bool
 fn parity_fits(k: usize, size: usize, n: usize, m: usize) -> bool
     ensures { result ≡ parity_fits k size n m }
 {
-    if ok_width(k) {
-        holds(k, size, n) && holds(k, size, m)
-    } else {
-        false
+    if !ok_width(k) {
+        return false;
     }
+    holds(k, size, n) && holds(k, size, m)
 }
 
 // Encodes k shares of any size, and writes only the k shares behind the data. Where k or a length is wrong, out is as it was.

@@ -13,8 +13,9 @@ fn add_selected(row: &[u8], bit: usize, shares: &[u8], size: usize, from: usize,
     requires { (bit < 8) × ((length shares.now ≡ length row.now * size) × (from + length sum.old ≤ size)) }
     ensures { (b : ℕ) → b < length sum.old → slice_index sum.new b ≡ bit_xor (slice_index sum.old b) (applied (length row.now) (λ j. at row.now j / 2 ^ bit % 2) (λ j. byte_of size j (from + b) shares.now)) }
 {
-    for j in 0..row.len() {
-        if (row[j] >> bit) % 2 == 1 {
+    // Shares by their number: they may have no bytes, which `chunks_exact` does not take.
+    for (j, coefficient) in row.iter().enumerate() {
+        if (*coefficient >> bit) % 2 == 1 {
             galois::bulk::add_share(sum, &shares[j * size + from..j * size + size]);
         }
     }
@@ -35,9 +36,7 @@ pub(crate) fn combine(row: &[u8], shares: &[u8], size: usize, from: usize, sum: 
     requires { (length shares.now ≡ length row.now * size) × (from + length sum.old ≤ size) }
     ensures { (b : ℕ) → b < length sum.old → slice_index sum.new b ≡ applied (length row.now) (at row.now) (λ j. byte_of size j (from + b) shares.now) }
 {
-    for x in sum.iter_mut() {
-        *x = 0;
-    }
+    sum.fill(0);
     for done in 0..8usize {
         galois::bulk::double_share(sum);
         add_selected(row, 7 - done, shares, size, from, sum);
@@ -49,6 +48,7 @@ pub(crate) fn apply_rows(rows: &[u8], n: usize, k: usize, s: usize, shares: &[u8
     requires { (length rows.now ≡ n * k) × ((length shares.now ≡ k * s) × (length out.old ≡ n * s)) }
     ensures { (i : ℕ) → i < n → (b : ℕ) → b < s → byte_of s i b out.new ≡ applied k (λ j. byte_of k i j rows.now) (λ j. byte_of s j b shares.now) }
 {
+    // By number: of what is written through `chunks_exact_mut` a proof knows nothing.
     for i in 0..n {
         combine(
             &rows[i * k..i * k + k],

@@ -20,12 +20,10 @@ const CELL_ROOM: usize = 512;
 fn complete_fits(k: usize, w: usize, s: usize, n: usize) -> bool
     ensures { result ≡ complete_fits k w s n }
 {
-    if ok_width(k) {
-        if 1 <= w && w <= 64 && s <= 512 {
-            return n == 2 * k * (w * s);
-        }
+    if !ok_width(k) {
+        return false;
     }
-    false
+    1 <= w && w <= 64 && s <= 512 && n == 2 * k * (w * s)
 }
 
 // Each share from k on becomes the sum of the first k by its row of the table, which has k columns. Shares are worked out cell by cell

@@ -6,12 +6,12 @@ ghost use Rattle.std.specs.Prelude.{◌≡◌};
 pub fn ok_width(k: usize) -> bool
     ensures { result ≡ ok_width k }
 {
-    k == 1 || k == 2 || k == 4 || k == 8 || k == 16 || k == 32
+    matches!(k, 1 | 2 | 4 | 8 | 16 | 32)
 }
 
 // Whether a share can have s bytes.
 pub fn ok_size(s: usize) -> bool
     ensures { result ≡ ok_size s }
 {
-    1 <= s && s <= 512
+    (1..=512).contains(&s)
 }

@@ -4,19 +4,19 @@ use Rattle.erasure.proofs.Bounds.{width_some}
 use Rattle.erasure.proofs.calls.parity_fits.Goals as goal
 
 pub holds-requires : goal.holds-requires
-holds-requires c = width_some c.args.k (sym c.if-ok_width.ensures)
+holds-requires c = width_some c.args.k (sym c.if-not-ok_width.ensures)
 
 pub holds-requires-then-holds : goal.holds-requires-then-holds
-holds-requires-then-holds c = width_some c.args.k (sym c.if-ok_width.ensures)
+holds-requires-then-holds c = width_some c.args.k (sym c.if-not-ok_width.ensures)
 
 pub returns-then-holds : goal.returns-then-holds
 unfolding parity_fits
-returns-then-holds c = c.holds-then-holds.ensures ∙ rw (sym c.if-ok_width.ensures, sym c.if-holds.ensures)
+returns-then-holds c = c.holds-then-holds.ensures ∙ rw (sym c.if-not-ok_width.ensures, sym c.if-holds.ensures)
 
 pub returns-else-holds : goal.returns-else-holds
 unfolding parity_fits
-returns-else-holds c = c.if-holds.false ∙ rw (sym c.if-ok_width.ensures, sym c.if-holds.ensures)
+returns-else-holds c = c.if-holds.false ∙ rw (sym c.if-not-ok_width.ensures, sym c.if-holds.ensures)
 
-pub returns-else-ok_width : goal.returns-else-ok_width
+pub returns-then-not-ok_width : goal.returns-then-not-ok_width
 unfolding parity_fits
-returns-else-ok_width c = rw (sym c.if-ok_width.ensures)
+returns-then-not-ok_width c = rw (sym c.if-not-ok_width.ensures)

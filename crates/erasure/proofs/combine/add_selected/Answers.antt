@@ -9,7 +9,7 @@ use Rattle.codes.specs.Code.{applied}
 use Rattle.codes.specs.Words.{at}
 use Rattle.erasure.proofs.Horner.{applied_none, more_with, more_without}
 use Rattle.erasure.proofs.combine.add_selected.Goals as goal
-use Rattle.erasure.proofs.combine.add_selected.Goals.{then-row-j-eq1, else-row-j-eq1}
+use Rattle.erasure.proofs.combine.add_selected.Goals.{then-coefficient-bit-eq1, else-coefficient-bit-eq1}
 
 pub loop-j-init : goal.loop-j-init
 loop-j-init c = λ b h.
@@ -35,16 +35,16 @@ loop-j-preserved c = λ b h.
     let row : ℕ → ℕ = λ j. at c.args.row.now j / 2 ^ c.args.bit % 2 in
     let d : ℕ → ℕ = λ j. byte_of c.args.size j (c.args.from + b) c.args.shares.now in
     let start : ℕ = get_or c.args.sum.now b 0 in
-    elim c.if-row-j-eq1.branch [
-      | then-row-j-eq1 w ↦
+    elim c.if-coefficient-bit-eq1.branch [
+      | then-coefficient-bit-eq1 w ↦
           ap (λ zs. get_or zs b 0) w.sum-is
           ∙ with_share c.loop-j.sum w.add_share.new.sum c.args.shares.now c.args.size c.args.from c.loop-j.j b w.add_share.ensures
           (omega arith) (omega arith)
-          ∙ more_with c.loop-j.j row d start (get_or c.loop-j.sum b 0) w.if-row-j-eq1.true
+          ∙ more_with c.loop-j.j row d start (get_or c.loop-j.sum b 0) w.if-coefficient-bit-eq1.true
           (c.type_inv.shares (c.loop-j.j * c.args.size + (c.args.from + b))).fits (c.loop-j.invariant b h)
-      | else-row-j-eq1 w ↦
+      | else-coefficient-bit-eq1 w ↦
           ap (λ zs. get_or zs b 0) w.sum-is
-          ∙ more_without c.loop-j.j row d start (get_or c.loop-j.sum b 0) (let n = w.if-row-j-eq1.false in omega arith) (c.loop-j.invariant b h)
+          ∙ more_without c.loop-j.j row d start (get_or c.loop-j.sum b 0) (let n = w.if-coefficient-bit-eq1.false in omega arith) (c.loop-j.invariant b h)
     ]
 
 pub returns : goal.returns

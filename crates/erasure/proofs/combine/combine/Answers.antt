@@ -1,6 +1,6 @@
-use Rattle.std.proofs.Common.{◌≡◌, ℕ, ◌+◌, ◌-◌, ◌/◌, ◌%◌, ◌^◌, ◌<◌, ◌≢◌, List, length, get_or, sym, ap, ◌∙◌, arith, get_or-set_other, get_or-set_same, below_more}
+use Rattle.std.proofs.Common.{◌≡◌, ℕ, ◌+◌, ◌-◌, ◌/◌, ◌%◌, ◌^◌, ◌<◌, List, length, get_or, sym, ap, ◌∙◌, arith}
 use lib.Bits.{bit_xor}
-use Rattle.std.proofs.lemmas.List.{get_or-map}
+use Rattle.std.proofs.lemmas.List.{get_or-map, get_or-replicate}
 use Rattle.octets.specs.Shares.{byte_of}
 use Rattle.galois.specs.Field.{mul}
 use Rattle.galois.specs.Vectors.{doubled}
@@ -9,15 +9,9 @@ use Rattle.codes.specs.Words.{at}
 use Rattle.erasure.proofs.Horner.{bit_more, bit_none, bit_all}
 use Rattle.erasure.proofs.combine.combine.Goals as goal
 
-pub loop-x-preserved : goal.loop-x-preserved
-loop-x-preserved c =
-    below_more _ _
-    (λ b h. let ne : b ≢ c.loop-x.x-index = omega arith in rw get_or-set_other (c.loop-x.invariant b h))
-    (let lt : c.loop-x.x-index < length c.loop-x.sum = omega arith in rw get_or-set_same)
-
 pub loop-done-init : goal.loop-done-init
 loop-done-init c = λ b h.
-    c.loop-x.invariant b (omega arith)
+    ap (λ zs. get_or zs b 0) (c.fill.ensures.after (λ y e. e)) ∙ get_or-replicate {A = ℕ} (length c.args.sum.now) b 0 0 (omega arith)
     ∙ bit_none (length c.args.row.now) (at c.args.row.now) (λ j. byte_of c.args.size j (c.args.from + b) c.args.shares.now) (λ j. (c.type_inv.row j).fits)
 
 -- one bit more: the sum doubled, and the terms of that bit

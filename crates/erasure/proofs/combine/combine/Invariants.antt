@@ -4,9 +4,6 @@ use Rattle.codes.specs.Code.{applied}
 use Rattle.codes.specs.Words.{at}
 use Rattle.erasure.proofs.combine.combine.Given as goal
 
-abbrev pub invariant-loop-x : goal.invariant-loop-x
-invariant-loop-x l = (b : ℕ) → b < l.x-index → get_or l.sum b 0 ≡ 0
-
 -- the sum by the coefficients' bits that are done
 abbrev pub invariant-loop-done : goal.invariant-loop-done
 invariant-loop-done l =

@@ -3,10 +3,18 @@ use Rattle.std.proofs.lemmas.Bool.Decides.{nat_tests}
 use Rattle.erasure.specs.Limits.{ok_width}
 use Rattle.erasure.proofs.limits.ok_width.Goals as goal
 
-pub returns-then-k-eq16 : goal.returns-then-k-eq16
+pub returns-in_default : goal.returns-in_default
 unfolding ok_width
-returns-then-k-eq16 c = grind (arith, nat_tests)
+returns-in_default c = grind (arith, nat_tests)
 
-pub returns-else-k-eq16 : goal.returns-else-k-eq16
+pub returns-in_default-2 : goal.returns-in_default-2
 unfolding ok_width
-returns-else-k-eq16 c = grind (arith, nat_tests)
+returns-in_default-2 c = grind (arith, nat_tests)
+
+pub returns-in-1 : goal.returns-in-1
+unfolding ok_width
+returns-in-1 c = grind (arith, nat_tests)
+
+pub returns-in-1-2 : goal.returns-in-1-2
+unfolding ok_width
+returns-in-1-2 c = grind (arith, nat_tests)
