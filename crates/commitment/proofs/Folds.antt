@@ -1,7 +1,7 @@
 -- Rows of digests inside a longer row, and the halves of a range of a square's rows.
 use Rattle.std.proofs.Common.{◌≡◌, ℕ, suc, ◌+◌, ◌-◌, ◌*◌, ◌^◌, ◌<◌, ◌≤◌, List, ◌++◌, length, take, drop, sym, ap, ◌∙◌, mul_assoc, add-mul, pow-suc, mul-add, arith, length-append, length-drop, length-take}
 use Rattle.std.proofs.lemmas.Nat.{mul-le, pow_pos}
-use Rattle.std.proofs.lemmas.List.{append_assoc, drop-append-le, drop-drop, drop_at, length-take-le, take-append-drop, take-append-le}
+use Rattle.std.proofs.lemmas.List.{append_assoc, drop-append-le, drop-drop, drop-take, drop_at, length-take-le, take-append-le, take-take}
 use Rattle.std.proofs.lemmas.Bool.{cond-true, le-leb}
 use borrow.Rule.Slice.PartMut.{put_mid}
 use Rattle.octets.specs.Splice.{over}
@@ -29,9 +29,16 @@ slot_behind w j xs ys e =
     ap (take digest_len)
     (ap (λ n. drop n (xs ++ ys)) at ∙ sym (drop-drop (digest_len * j) (digest_len * w) (xs ++ ys)) ∙ ap (drop (digest_len * j)) (drop_at xs ys (digest_len * w) e))
 
-pub slot_take : (j n : ℕ) (xs : List ℕ) → digest_len * j + digest_len ≤ n → n ≤ length xs → slot j (take n xs) ≡ slot j xs
-slot_take j n xs h l =
-    sym (slot_front j (take n xs) (drop n xs) (omega (arith, length-take-le n xs l))) ∙ ap (slot j) (take-append-drop n xs)
+pub slot_take : (j n : ℕ) (xs : List ℕ) → digest_len * j + digest_len ≤ n → slot j (take n xs) ≡ slot j xs
+slot_take j n xs h =
+    let at : n ≡ digest_len * j + (n - digest_len * j) = omega arith in
+    ap (λ m. take digest_len (drop (digest_len * j) (take m xs))) at
+    ∙ ap (take digest_len) (drop-take (digest_len * j) (n - digest_len * j) xs)
+    ∙ take-take digest_len (n - digest_len * j) (drop (digest_len * j) xs) (omega arith)
+
+-- an entry of a row that was written to the front of a buffer
+pub slot_copied : (j n : ℕ) (row xs ys : List ℕ) → xs ≡ row → digest_len * j + digest_len ≤ n → digest_len * j + digest_len ≤ length row → slot j (take n (xs ++ ys)) ≡ slot j row
+slot_copied j n row xs ys e h l = slot_take j n (xs ++ ys) h ∙ ap (λ z. slot j (z ++ ys)) e ∙ slot_front j row ys l
 
 -- all that is behind the first w entries is written
 module _ (w j : ℕ) (xs ys : List ℕ) (long : digest_len * w ≤ length xs) where
@@ -39,7 +46,7 @@ module _ (w j : ℕ) (xs ys : List ℕ) (long : digest_len * w ≤ length xs) wh
   rest_front l =
       ap (slot j) (put_rest (digest_len * w) xs ys)
       ∙ slot_front j (take (digest_len * w) xs) ys (omega (arith, length-take-le (digest_len * w) xs long))
-      ∙ slot_take j (digest_len * w) xs (omega arith) long
+      ∙ slot_take j (digest_len * w) xs (omega arith)
 
   pub rest_behind : slot (w + j) (put_mid (digest_len * w) (length xs - digest_len * w) xs ys) ≡ slot j ys
   rest_behind =

@@ -6,7 +6,6 @@ ghost use Rattle.octets.specs.Splice.{over};
 ghost use Rattle.commitment.specs.Roots.{line_leaf};
 ghost use Rattle.hash.specs.Digests.{digest_len};
 ghost use Rattle.merkle.specs.Climb.{join_of, plain_rule, slot};
-ghost use Rattle.merkle.specs.Layout.{tree_len};
 ghost use Rattle.merkle.specs.Tree.{node, root};
 
 use crate::cells::Cells;
@@ -18,22 +17,14 @@ use layout::entry::{join_entries, put_entry};
 // The tree of the longest line. The library allocates nothing, so a shorter line's takes the front of as much.
 const TREE_ROOM: usize = 4064;
 
-// The root of the tree over a row of 2^depth digests, which is worked out in `tree`.
-fn root_over<H: Hash>(row: &[u8], depth: usize, tree: &mut [u8]) -> [u8; DIGEST_LEN]
-    requires { (depth ≤ 6) × ((length row.now ≡ digest_len * 2 ^ depth) × (length tree.old ≡ tree_len depth)) }
-    ensures { result ≡ root (join_of plain_rule H.meaning) depth (λ p. slot p row.now) }
-{
-    tree[..row.len()].copy_from_slice(row);
-    grown_root::<H>(tree, depth)
-}
-
-// The same with room of its own.
+// The root of the tree over a row of 2^depth digests.
 fn row_root<H: Hash>(row: &[u8], depth: usize) -> [u8; DIGEST_LEN]
     requires { (depth ≤ 6) × ((length row.now ≡ digest_len * 2 ^ depth) × (2 ^ depth ≤ 64)) }
     ensures { result ≡ root (join_of plain_rule H.meaning) depth (λ p. slot p row.now) }
 {
     let mut space = [0u8; TREE_ROOM];
-    root_over::<H>(row, depth, &mut space[..2 * row.len() - DIGEST_LEN])
+    space[..row.len()].copy_from_slice(row);
+    grown_root::<H>(&mut space[..2 * row.len() - DIGEST_LEN], depth)
 }
 
 // Joins the first row of digests with the second, place by place.
@@ -41,6 +32,7 @@ fn join_rows<H: Hash>(work: &mut [u8], width: usize)
     requires { digest_len * (width + width) ≤ length work.old }
     ensures { (j : ℕ) → j < width → slot j work.new ≡ join_of plain_rule H.meaning (slot j work.old) (slot (width + j) work.old) }
 {
+    // By index: each step reads two entries of the row that it writes to.
     for j in 0..width {
         let _ = join_entries::<H>(work, j, width + j, j);
     }

@@ -35,6 +35,7 @@ impl Cells<'_> {
         ensures { (j : ℕ) → j < self.now.lengths.width → slot j entries.new ≡ line_leaf H.meaning self.now.lengths.width self.now.lengths.share self.now.shares.now n j }
     {
         let width = self.lengths.width;
+        // By index: of a loop over a buffer's mutable chunks no proof sees what the buffer holds.
         for p in 0..width {
             let cell = cell_on(width, n, p);
             let _ = put_entry(

@@ -1,5 +1,5 @@
 // Runs of values of one size.
-ghost use Rattle.std.specs.Prelude.{◌≡◌, ◌*◌, ◌^◌, ◌≤◌, ◌==◌, ◌&&◌, nat_le, length, IfOk};
+ghost use Rattle.std.specs.Prelude.{◌≡◌, ◌*◌, ◌^◌, ◌≤◌, length, IfOk};
 ghost use Rattle.std.specs.Result.{is_ok};
 ghost use Rattle.commitment.specs.Values.{values_fit};
 ghost use Rattle.hash.specs.Digests.{parts_limit};

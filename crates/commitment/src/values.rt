@@ -1,7 +1,7 @@
 // Trees over values that lie one after the other.
-ghost use Rattle.std.specs.Prelude.{◌≡◌, ℕ, ◌+◌, ◌*◌, ◌^◌, ◌<◌, ◌≤◌, ◌==◌, ◌&&◌, nat_le, length, if◌then◌else◌, Some, None, IfOk};
+ghost use Rattle.std.specs.Prelude.{◌≡◌, ℕ, ◌+◌, ◌*◌, ◌^◌, ◌<◌, ◌≤◌, length, if◌then◌else◌, Some, None};
 ghost use Rattle.std.specs.Result.{is_ok};
-ghost use Rattle.commitment.specs.Values.{root_fits, tree_fits, value_leaf, value_root, value_tree, values_fit};
+ghost use Rattle.commitment.specs.Values.{root_fits, tree_fits, value_leaf, value_root, value_tree};
 ghost use Rattle.hash.specs.Digests.{digest_len, parts_limit};
 ghost use Rattle.layout.specs.Answers.{depth_limit};
 ghost use Rattle.merkle.specs.Climb.{join_of, plain_rule, slot};
@@ -51,28 +51,21 @@ impl Run<'_> {
         requires { digest_len * 2 ^ self.now.depth ≤ length entries.old }
         ensures { (j : ℕ) → j < 2 ^ self.now.depth → slot j entries.new ≡ value_leaf H.meaning self.now.size self.now.values.now j }
     {
+        // By index: of a loop over a buffer's mutable chunks no proof sees what the buffer holds.
         for i in 0..leaves(self.depth) {
             let _ = put_entry(entries, i, &leaf::<H>(self.values, self.size, i));
         }
     }
 
-    // The root of the tree over the values, which is worked out in `tree`.
-    fn root_in<H: Hash>(&self, tree: &mut [u8]) -> [u8; DIGEST_LEN]
-        requires { length tree.old ≡ tree_len self.now.depth }
-        ensures { result ≡ value_root H.meaning self.now.depth self.now.size self.now.values.now }
-    {
-        self.put_leaves::<H>(tree);
-        grown_root::<H>(tree, self.depth)
-    }
-
-    // The same with room of its own.
+    // The root of the tree over the values.
     pub(crate) fn root<H: Hash>(&self) -> [u8; DIGEST_LEN]
         requires { self.now.depth ≤ 7 }
         ensures { result ≡ value_root H.meaning self.now.depth self.now.size self.now.values.now }
     {
         let mut space = [0u8; TREE_ROOM];
         let tree = &mut space[..DIGEST_LEN * (2 * leaves(self.depth) - 1)];
-        self.root_in::<H>(tree)
+        self.put_leaves::<H>(tree);
+        grown_root::<H>(tree, self.depth)
     }
 }
 

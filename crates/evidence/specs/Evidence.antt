@@ -5,9 +5,9 @@ use Rattle.std.specs.Str.{bytes_eq}
 use Rattle.octets.specs.Outcome.{Refused, plain}
 use Rattle.merkle.specs.Climb.{Node, Rung, plain_rule, through_two, climb}
 use Rattle.header.specs.declared.cell.Axis.{Axis}
-use Rattle.header.specs.declared.cell.Axis.TheVariants.{Row, Column}
 use Rattle.header.specs.Fields.{Fields}
 use Rattle.header.specs.Lines.{line_of, place_on}
+pub use Rattle.header.specs.Lines.{axis_by}
 use Rattle.header.specs.Sizes.{depth, path_len, has_cell, line_number}
 
 -- The climb of an evidence for cell (r, c). The share is a leaf of the tree of its line along the proving axis, from the cell's place
@@ -36,10 +36,6 @@ pub record Evidence : Type 0 where
 
 abbrev pub proves : (List ℕ → List ℕ) → Fields → ℕ → ℕ → Evidence → Bool
 proves f h r c e = verifies f h r c e.axis e.share e.path
-
--- the axis that a byte of 0 or 1 names
-abbrev pub axis_by : ℕ → Axis
-axis_by a = cond (a == 0) Row Column
 
 -- what the check of a share answers, under a hash of this kind: refused by 13 for another hash kind, by 15 for a cell outside, by 11
 -- for an axis over 1, by 3 for a share or path of wrong length, by 20 where it does not verify

@@ -1,5 +1,5 @@
 // A block whose square and roots are at hand.
-ghost use Rattle.std.specs.Prelude.{◌≡◌, ◌==◌, ◌&&◌, length, IfOk};
+ghost use Rattle.std.specs.Prelude.{◌≡◌, length, IfOk};
 ghost use Rattle.std.specs.Result.{is_ok};
 ghost use Rattle.commitment.specs.Roots.{square_fits};
 ghost use Rattle.header.specs.Fields.{fields_of};

@@ -1,12 +1,10 @@
 // Checking a share against a header.
 ghost use Rattle.std.specs.Prelude.{◌≡◌, ◌+◌, ◌*◌, ◌<◌, ◌≤◌, length};
 ghost use Rattle.octets.specs.Outcome.{outcome};
-ghost use Rattle.evidence.specs.Evidence.{axis_by, check_outcome, evidence_fits, verifies};
+ghost use Rattle.evidence.specs.Evidence.{check_outcome, verifies};
 ghost use Rattle.hash.specs.Digests.{digest_len, parts_limit};
 ghost use Rattle.header.specs.Fields.{fields_of};
-ghost use Rattle.header.specs.Lines.{line_of};
 ghost use Rattle.header.specs.Refusals.{told};
-ghost use Rattle.header.specs.Sizes.{line_number_in};
 ghost use Rattle.merkle.specs.Climb.{climb, plain_rule, through_two};
 
 use climbs::climb::climb_leaf;

@@ -1,17 +1,15 @@
 // Writing the evidence that a square gives.
-ghost use Rattle.std.specs.Prelude.{◌≡◌, ◌+◌, ◌*◌, ◌^◌, ◌<◌, ◌≤◌, true, ◌++◌, length, Ok};
+ghost use Rattle.std.specs.Prelude.{◌≡◌, ◌+◌, ◌<◌, length, Ok};
 ghost use Rattle.octets.specs.Outcome.{outcome};
 ghost use Rattle.octets.specs.Written.{written};
-ghost use Rattle.commitment.specs.Roots.{data_root_of, line_tree, roots_of};
+ghost use Rattle.commitment.specs.Roots.{line_tree};
 ghost use Rattle.commitment.specs.Values.{value_tree};
-ghost use Rattle.evidence.specs.Evidence.{verifies};
-ghost use Rattle.evidence.specs.Paths.{Proves, block_fits, evidence_outcome, evidence_path};
+ghost use Rattle.evidence.specs.Paths.{Proves, evidence_outcome, evidence_path};
 ghost use Rattle.hash.specs.Digests.{digest_len};
 ghost use Rattle.header.specs.Fields.{fields_of};
-ghost use Rattle.header.specs.Lines.{line_of, place_on};
 ghost use Rattle.header.specs.Refusals.{told};
-ghost use Rattle.header.specs.Sizes.{axis_tree_len, depth, line_count, path_len, roots_len, square_len, width};
-ghost use Rattle.merkle.specs.Layout.{path_of, tree_len};
+ghost use Rattle.header.specs.Sizes.{depth, line_count, width};
+ghost use Rattle.merkle.specs.Layout.{path_of};
 
 use crate::block::Block;
 use commitment::values::value_tree;

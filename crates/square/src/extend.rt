@@ -6,7 +6,7 @@ ghost use Rattle.commitment.specs.Roots.{roots_of};
 ghost use Rattle.extension.specs.Square.{extension};
 ghost use Rattle.header.specs.Fields.{fields_of};
 ghost use Rattle.header.specs.Refusals.{told};
-ghost use Rattle.square.specs.Extend.{ExtendStands, extend_fits, extend_outcome};
+ghost use Rattle.square.specs.Extend.{ExtendStands, extend_outcome};
 ghost use Rattle.std.specs.Prelude.{◌≡◌, length};
 
 use commitment::commit::commit;

@@ -38,7 +38,7 @@ returns g c =
           ap (λ m. slot m out) (let e : n ≡ w + (n - w) = omega arith in e)
           ∙ rest_behind w (n - w) rows columns (omega arith)
           ∙ ap (slot (n - w)) c.copy_from_slice.ensures.after
-          ∙ slot_take (n - w) (digest_len * w) c.fold.new.work (omega arith) (omega arith)
+          ∙ slot_take (n - w) (digest_len * w) c.fold.new.work (omega arith)
           ∙ c.fold.ensures.columns (n - w) (omega arith)
           ∙ ap of (let e : w + (n - w) ≡ n = omega arith in e)
     ] in

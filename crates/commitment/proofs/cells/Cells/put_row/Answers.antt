@@ -25,4 +25,4 @@ returns-clause-root g c =
     ∙ ap (λ z. over (digest_len * c.args.i) z c.args.roots.now)
     (c.row_root-root.ensures
     ∙ node_same (join_of plain_rule g.H.Hash.meaning) (λ p. slot p (take (digest_len * w) row)) (line_leaf g.H.Hash.meaning w s.lengths.share s.shares.now c.args.i) s.lengths.depth 0
-    (λ j l. slot_take j (digest_len * w) row (omega (arith, m.power)) (omega arith) ∙ c.put_line.ensures j (omega (arith, m.power))))
+    (λ j l. slot_take j (digest_len * w) row (omega (arith, m.power)) ∙ c.put_line.ensures j (omega (arith, m.power))))

@@ -2,7 +2,7 @@ use Rattle.std.proofs.Common.{◌∙◌, arith}
 use Rattle.merkle.specs.Climb.{join_of, plain_rule, slot}
 use Rattle.merkle.proofs.Same.{node_same}
 use Rattle.commitment.specs.Values.{value_leaf, value_root}
-use Rattle.commitment.proofs.run.Run.root_in.Goals as goal
+use Rattle.commitment.proofs.run.Run.root.Goals as goal
 
 pub returns : goal.returns
 unfolding value_root
