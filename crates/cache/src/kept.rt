@@ -1,10 +1,9 @@
 // An answer that a cache keeps.
 use header::cell::{Axis, Cell};
+pub use store::sweep::PATH_ROOM;
 
-// The longest share and the longest path.
+// The longest share.
 pub const SHARE_ROOM: usize = 512;
-
-pub const PATH_ROOM: usize = 416;
 
 // How many answers a cache keeps.
 pub(crate) const PLACES: usize = 8;

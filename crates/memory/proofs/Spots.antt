@@ -1,5 +1,5 @@
 -- Where the parts of an image stand.
-use Rattle.std.proofs.Common.{◌≡◌, ℕ, ◌+◌, ◌-◌, ◌*◌, ◌<◌, ◌≤◌, true, cond, not, eqb, List, length, take, drop, Ok, Err, length-drop, inl, inr, sym, ap, ap₂, ◌∙◌, arith}
+use Rattle.std.proofs.Common.{◌≡◌, ℕ, ◌+◌, ◌-◌, ◌*◌, ◌<◌, ◌≤◌, true, false, cond, not, eqb, List, length, take, drop, Ok, Err, length-drop, inl, inr, sym, ap, ap₂, ◌∙◌, arith}
 use Rattle.std.proofs.lemmas.Nat.{mul-add-lt, mul-le}
 use Rattle.std.proofs.lemmas.Bool.{or_cases, eqb-true}
 use Rattle.octets.proofs.Shares.{share_inside}
@@ -42,10 +42,10 @@ tree_spot w a r hr hw ha =
     record { start = mul-le r a 64 4064 (omega arith) ha; end = share_inside r w a hr; most = mul-le w a 64 4064 hw ha }
 
 -- an image that is not empty is whole
-pub whole_image : (k s n : ℕ) → image_held k s n ≡ true → (n ≡ 0 → ⊥) → n ≡ image_len (block k s)
+pub whole_image : (k s n : ℕ) → image_held k s n ≡ true → false ≡ eqb n 0 → n ≡ image_len (block k s)
 whole_image k s n held some =
     elim (or_cases (eqb n 0) (eqb n (image_len (block k s))) held) [
-      | inl t ↦ absurd (some (eqb-true n 0 t))
+      | inl t ↦ let both : false ≡ true = some ∙ t in let z : ◌≡◌ {A = ℕ} 0 1 = cc in absurd (omega arith)
       | inr t ↦ eqb-true n (image_len (block k s)) t
     ]
 

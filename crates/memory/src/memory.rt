@@ -73,7 +73,7 @@ impl Store for Memory<'_> {
         path: &mut [u8],
     ) -> Result<Option<Axis>, StoreRefusal> {
         self.admit(cell, share, path)?;
-        if self.image.len() == 0 {
+        if self.image.is_empty() {
             return Ok(None);
         }
         put_share(&self.shape, self.image, cell, share);

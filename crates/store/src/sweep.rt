@@ -16,8 +16,8 @@ use header::cell::{Axis, Cell};
 use header::header::Header;
 use octets::misfit::Misfit;
 
-// The longest path.
-const PATH_ROOM: usize = 416;
+// The longest path of an evidence.
+pub const PATH_ROOM: usize = 416;
 
 // Takes the evidence at a cell. Where there is none, the share is zeros.
 fn hold<H: Hash, S: Store>(

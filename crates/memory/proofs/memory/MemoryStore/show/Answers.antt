@@ -1,5 +1,5 @@
 use Rattle.std.proofs.Common.{◌≡◌, not, length, Some, None, Ok, sym, refl, ap}
-use Rattle.std.proofs.lemmas.Bool.{and_from, ne_eqb, lt-ltb, cond-true}
+use Rattle.std.proofs.lemmas.Bool.{and_from, lt-ltb, cond-true}
 use Rattle.store.specs.Meaning.{Meaning, block}
 use Rattle.store.specs.Showing.{asked}
 use Rattle.store.proofs.Asking.{admitted, shows_this, untouched_free}
@@ -17,7 +17,7 @@ put_share-requires c =
     let t = admitted m.k m.s a.cell.row a.cell.col _ _ free in
     record {
       cell = (t.row, t.col);
-      room = (whole_image me.shape.k me.shape.s (length me.image.now) me.whole c.if-self-eq0.false, t.share);
+      room = (whole_image me.shape.k me.shape.s (length me.image.now) me.whole c.if-is_empty.ensures, t.share);
     }
 
 pub put_path-requires : goal.put_path-requires
@@ -30,7 +30,7 @@ put_path-requires c =
     let t = admitted m.k m.s a.cell.row a.cell.col _ _ free in
     record {
       cell = (t.row, t.col);
-      room = (whole_image me.shape.k me.shape.s (length me.image.now) me.whole c.if-self-eq0.false, t.path);
+      room = (whole_image me.shape.k me.shape.s (length me.image.now) me.whole c.if-is_empty.ensures, t.path);
     }
 
 pub returns : goal.returns
@@ -46,7 +46,7 @@ returns c =
     let t = admitted m.k m.s r col _ _ free in
     let here : m.at r col ≡ Some (row_evidence (block m.k m.s) me.image.now r col) =
     cond-true _ (Some (row_evidence (block m.k m.s) me.image.now r col)) None
-    (and_from _ _ (ap not (ne_eqb (length me.image.now) 0 c.if-self-eq0.false)) (and_from _ _ (lt-ltb r _ t.row) (lt-ltb col _ t.col))) in
+    (and_from _ _ (ap not (sym c.if-is_empty.ensures)) (and_from _ _ (lt-ltb r _ t.row) (lt-ltb col _ t.col))) in
     record {
       shown = λ o.
           shows_this m r col a.share.now a.path.now free (Some (row_evidence (block m.k m.s) me.image.now r col)) here _ _ _ _ _
