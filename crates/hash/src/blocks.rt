@@ -51,6 +51,7 @@ pub fn hash_blocks<C: Chain<BLOCK>, const BLOCK: usize>(message: &Message) -> [u
     let parts = message.followed_by(tail);
     let blocks = (message.len() + tail.len()) / BLOCK;
     let mut value = C::start();
+    // Counted: the parts lie apart, so there is no slice that `chunks_exact` could cut.
     for n in 0..blocks {
         let mut block = [0u8; BLOCK];
         parts.gather(&mut block, BLOCK * n);

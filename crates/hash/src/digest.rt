@@ -9,11 +9,12 @@ use crate::message::Message;
 use crate::refusal::DigestRefusal;
 
 pub trait Hash {
-    // The byte that names this hash in a header.
+    // The byte that names this hash in a header; a clause names it by the member beside it.
     const KIND: u8;
 
     ghost KIND: { ℕ };
 
+    // The same, by the names that the layers above use.
     ghost kind: { ℕ };
 
     fn kind_byte() -> u8

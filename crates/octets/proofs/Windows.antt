@@ -1,12 +1,13 @@
 -- Blocks as windows on a message.
-use Rattle.std.proofs.Common.{◌≡◌, ℕ, ◌+◌, ◌-◌, ◌<◌, ◌≤◌, ◌⊎◌, List, [], ◌++◌, map, length, get_or, take, drop, replicate, sym, ap, ◌∙◌, inl, inr, arith}
+use Rattle.std.proofs.Common.{◌≡◌, ℕ, zero, suc, ◌+◌, ◌-◌, ◌*◌, ◌<◌, ◌≤◌, ◌⊎◌, List, [], ◌++◌, map, length, get_or, take, drop, replicate, sym, ap, ◌∙◌, inl, inr, mul-zero, arith, get_or-take, length-drop}
 use lib.ListN.{length-replicate}
 use Rattle.std.proofs.lemmas.Bool.{cases_lt}
 use borrow.Rule.Slice.PartMut.{put_mid}
 use Rattle.std.specs.List.{range_with_len}
-use Rattle.std.proofs.lemmas.List.{places, get_or_append_left, get_or-append_right, get_or_past, get_or-replicate}
+use Rattle.std.proofs.lemmas.List.{places, drop-drop, get_or-drop, length-take-le, get_or_append_left, get_or-append_right, get_or_past, get_or-replicate}
 use Rattle.std.proofs.lemmas.List.FromFn.{fill_by_all, get_or-map-range_with_len, length-map-range_with_len}
 use Rattle.std.proofs.lemmas.Bool.Decides.{nat_tests}
+use Rattle.std.specs.Simd.{first_chunks}
 use Rattle.octets.specs.Window.{window, overlaid_at, laid_at, laid}
 
 -- the part that is written over has the bytes of the other part, and what lies before and behind it stays
@@ -73,3 +74,23 @@ window_more m part start n begin b =
 
 pub window_next : (m part before after : List ℕ) (start n begin : ℕ) → begin ≡ length m → before ≡ window m start n → after ≡ laid before start begin part → after ≡ window (m ++ part) start n
 window_next m part before after start n begin b e h = h ∙ ap (λ xs. laid xs start begin part) e ∙ window_more m part start n begin b
+
+-- ---- chunks
+
+chunk_at : (n k i : ℕ) (xs : List ℕ) → i < k → get_or (first_chunks n k xs) i [] ≡ take n (drop (n * i) xs)
+chunk_at n zero i xs h = absurd (omega arith)
+chunk_at n (suc k) zero xs h = ap (λ q. take n (drop q xs)) (sym (mul-zero n))
+chunk_at n (suc k) (suc i) xs h =
+    let more : n + n * i ≡ n * suc i = grind arith in
+    chunk_at n k i (drop n xs) (omega arith) ∙ ap (take n) (drop-drop (n * i) n xs) ∙ ap (λ q. take n (drop q xs)) more
+
+-- a chunk is a window
+chunk_window : (n k i : ℕ) (xs : List ℕ) → i < k → n * i + n ≤ length xs → get_or (first_chunks n k xs) i [] ≡ window xs (n * i) n
+chunk_window n k i xs h l =
+    chunk_at n k i xs h
+    ∙ window_by xs (take n (drop (n * i) xs)) (n * i) n (length-take-le n (drop (n * i) xs) (simp length-drop (omega arith)))
+    (λ j m. get_or-take n (drop (n * i) xs) j 0 m ∙ get_or-drop (n * i) xs j 0)
+
+-- and its bytes are the list's
+pub chunk_byte : (n k i j : ℕ) (xs : List ℕ) → i < k → n * i + n ≤ length xs → j < n → get_or (get_or (first_chunks n k xs) i []) j 0 ≡ get_or xs (n * i + j) 0
+chunk_byte n k i j xs h l m = ap (λ ys. get_or ys j 0) (chunk_window n k i xs h l) ∙ window_at xs (n * i) n j m

@@ -1,12 +1,13 @@
 -- Padding, and blocks cut from a message.
-use Rattle.std.proofs.Common.{◌≡◌, ℕ, ◌+◌, ◌*◌, ◌/◌, ◌%◌, ◌^◌, ◌<◌, ◌≤◌, List, ◌++◌, map, length, get_or, take, set, replicate, sym, refl, ap, ◌∙◌, add-one, arith, length-set}
+use Rattle.std.proofs.Common.{◌≡◌, ℕ, ◌+◌, ◌*◌, ◌/◌, ◌%◌, ◌^◌, ◌<◌, ◌≤◌, List, [], ◌++◌, map, length, get_or, take, set, replicate, sym, refl, ap, ◌∙◌, add-one, arith, length-set}
 use lib.ListN.{length-replicate}
 use borrow.Rule.Slice.PartMut.{put_mid}
 use Rattle.std.specs.List.{range_with_len}
 use Rattle.std.proofs.lemmas.Slice.{take-put_mid}
 use Rattle.std.proofs.lemmas.List.FromFn.{fill_by_all, get_or-map-range_with_len, length-map-range_with_len}
+use Rattle.std.specs.Simd.{first_chunks}
 use Rattle.octets.specs.Window.{window}
-use Rattle.octets.proofs.Windows.{window_at}
+use Rattle.octets.proofs.Windows.{chunk_byte, window_at}
 use Rattle.octets.proofs.Zeros.{zeros_behind}
 use Rattle.sha256.specs.Compression.{compressed, initial}
 use Rattle.sha256.specs.Message.{word_at, block_at, padding, zero_count, long_bytes, value_after}
@@ -51,10 +52,27 @@ pub block_length : (p : List ℕ) (q : ℕ) → length (block_at p q) ≡ 16
 unfolding block_at
 block_length p q = refl
 
-pub block_word : (p : List ℕ) (t : ℕ) → t < 16 → word_at p (4 * t) ≡ get_or (block_at p 0) t 0
+block_word : (p : List ℕ) (t : ℕ) → t < 16 → word_at p (4 * t) ≡ get_or (block_at p 0) t 0
 unfolding block_at
 block_word p t h =
     ap (word_at p) (omega arith) ∙ sym (get_or-map-range_with_len (λ t. word_at p (0 + 4 * t)) 0 16 t t 0 h (omega arith))
+
+-- word t is chunk t of the block, read as a number
+pub chunk_word : (p : List ℕ) (cs : List (List ℕ)) (t : ℕ) → length p ≡ 64 → cs ≡ first_chunks 4 (length p / 4) p → t < 16
+    → word_at (get_or cs t []) 0 ≡ get_or (block_at p 0) t 0
+chunk_word p cs t l e h = ap (λ c. word_at (get_or c t []) 0) e ∙ same ∙ block_word p t h
+  where
+    byte : (j : ℕ) → j < 4 → get_or (get_or (first_chunks 4 (length p / 4) p) t []) j 0 ≡ get_or p (4 * t + j) 0
+    byte j m = chunk_byte 4 (length p / 4) t j p (omega arith) (omega arith) m
+
+    same : word_at (get_or (first_chunks 4 (length p / 4) p) t []) 0 ≡ word_at p (4 * t)
+    same =
+        let zero : 4 * t + 0 ≡ 4 * t = omega arith in
+        let a = byte 0 (omega arith) ∙ ap (λ i. get_or p i 0) zero in
+        let b = byte 1 (omega arith) in
+        let c = byte 2 (omega arith) in
+        let d = byte 3 (omega arith) in
+        cc
 
 pub value_none : (p : List ℕ) → initial ≡ value_after p 0
 unfolding value_after

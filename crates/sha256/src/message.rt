@@ -25,6 +25,7 @@ fn put_words(out: &mut [u8], words: &[u32])
     requires { length out.old ≡ 4 * length words.now }
     ensures { out.new ≡ flat_map word_bytes words.now }
 {
+    // By place: of what `chunks_exact_mut` lends, no more than the length is known afterwards.
     for (i, word) in words.iter().enumerate() {
         out[4 * i..4 * i + 4].copy_from_slice(&word.to_be_bytes());
     }

@@ -1,7 +1,7 @@
 // The words of a block and those that are worked out from them, one for each round.
-ghost use Rattle.std.specs.Prelude.{◌≡◌, ◌*◌, ◌<◌, ◌≤◌, length};
+ghost use Rattle.std.specs.Prelude.{◌≡◌, ◌<◌, ◌≤◌, length};
 ghost use Rattle.sha256.specs.Compression.{next_word, scheduled, small_sigma};
-ghost use Rattle.sha256.specs.Message.{block_at, word_at};
+ghost use Rattle.sha256.specs.Message.{block_at};
 
 use crate::compression::{rot, sum};
 
@@ -14,15 +14,6 @@ fn small_sigma(x: u32, i: u32, j: u32, k: u32) -> u32
     ensures { result ≡ small_sigma i j k x }
 {
     rot(x, i) ^ rot(x, j) ^ (x >> k)
-}
-
-// Word t of a block, its highest byte first.
-fn word(block: &[u8; BLOCK], t: usize) -> u32
-    requires { t < 16 }
-    ensures { result ≡ word_at block.now (4 * t) }
-{
-    let q = 4 * t;
-    u32::from_be_bytes([block[q], block[q + 1], block[q + 2], block[q + 3]])
 }
 
 // The next word of the schedule, from the words before `i`.
@@ -44,9 +35,11 @@ pub(crate) fn schedule(block: &[u8; BLOCK]) -> [u32; 64]
     ensures { result ≡ scheduled (block_at block.now 0) }
 {
     let mut w = [0; 64];
-    for t in 0..16 {
-        w[t] = word(block, t);
+    let (words, _) = block.as_chunks::<4>();
+    for (t, bytes) in words.iter().enumerate() {
+        w[t] = u32::from_be_bytes(*bytes);
     }
+    // By place: each word is worked out from those before it.
     for j in 16..64 {
         w[j] = next_word(&w, j);
     }

@@ -1,12 +1,13 @@
 -- Padding, and blocks absorbed from a message.
-use Rattle.std.proofs.Common.{◌≡◌, ℕ, zero, suc, ◌+◌, ◌-◌, ◌*◌, ◌<◌, ◌≤◌, cond, eqb, ltb, List, map, get_or, take, set, replicate, sym, refl, ap, ◌∙◌, inl, inr, add-one, arith}
+use Rattle.std.proofs.Common.{◌≡◌, ℕ, zero, suc, ◌+◌, ◌-◌, ◌*◌, ◌/◌, ◌<◌, ◌≤◌, cond, eqb, ltb, List, [], map, length, get_or, take, set, replicate, sym, refl, ap, ◌∙◌, inl, inr, add-one, arith}
 use lib.Bits.{bit_or, bit_xor}
 use Rattle.std.specs.List.{range_with_len}
 use Rattle.std.proofs.lemmas.List.FromFn.{fill_by_all, get_or-map-range_with_len, length-map-range_with_len}
 use Rattle.std.proofs.lemmas.Bool.{cases_eq, cases_lt, le-ltb, eq-eqb, ne_eqb, cond-true, cond-false}
 use Rattle.std.proofs.lemmas.List.{get_or-replicate}
+use Rattle.std.specs.Simd.{first_chunks}
 use Rattle.octets.specs.Window.{window}
-use Rattle.octets.proofs.Windows.{window_at}
+use Rattle.octets.proofs.Windows.{chunk_byte, window_at}
 use Rattle.octets.proofs.Zeros.{zeros_behind, zeros_between}
 use Rattle.sha3.specs.declared.permutation.Row.{Row}
 use Rattle.sha3.specs.declared.permutation.State.{State}
@@ -30,6 +31,28 @@ lane_window p start i h =
     let g = at 6 (omega arith) in
     let h = at 7 (omega arith) in
     cc
+
+-- lane i is chunk i of the block, read as a number
+pub chunk_lane : (p : List ℕ) (cs : List (List ℕ)) (i : ℕ) → length p ≡ 136 → cs ≡ first_chunks 8 (length p / 8) p → i < 17
+    → lane_at (get_or cs i []) 0 ≡ lane_at p (8 * i)
+unfolding lane_at
+chunk_lane p cs i l e h = ap (λ c. lane_at (get_or c i []) 0) e ∙ same
+  where
+    byte : (j : ℕ) → j < 8 → get_or (get_or (first_chunks 8 (length p / 8) p) i []) j 0 ≡ get_or p (8 * i + j) 0
+    byte j m = chunk_byte 8 (length p / 8) i j p (omega arith) (omega arith) m
+
+    same : lane_at (get_or (first_chunks 8 (length p / 8) p) i []) 0 ≡ lane_at p (8 * i)
+    same =
+        let zero : 8 * i + 0 ≡ 8 * i = omega arith in
+        let a = byte 0 (omega arith) ∙ ap (λ j. get_or p j 0) zero in
+        let b = byte 1 (omega arith) in
+        let c = byte 2 (omega arith) in
+        let d = byte 3 (omega arith) in
+        let e = byte 4 (omega arith) in
+        let f = byte 5 (omega arith) in
+        let g = byte 6 (omega arith) in
+        let h = byte 7 (omega arith) in
+        cc
 
 pub absorbed_window : (s p : List ℕ) (start : ℕ) → absorbed s (window p start 136) 0 ≡ absorbed s p start
 unfolding absorbed

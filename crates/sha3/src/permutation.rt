@@ -1,4 +1,5 @@
-// The permutation Keccak-f[1600]. The state is five rows of five lanes, passed by value from step to step.
+// The permutation Keccak-f[1600]. The state is five rows of five lanes, passed by value from step to step. The lanes have names and not
+// places: rho and pi give each one an amount or a place of its own, which an array would only number.
 ghost use Rattle.sha3.specs.Keccak.{chi_of, iota_of, permuted, pi_of, rho_of, rotl, round_of, theta_of};
 ghost use Rattle.sha3.specs.Lanes.{chi_row, effect_row, lanes, turn_row, xor_row};
 ghost use Rattle.std.specs.Prelude.{◌≡◌};

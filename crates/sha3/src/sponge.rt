@@ -17,17 +17,8 @@ fn lane(block: &[u8; RATE], i: usize) -> u64
     requires { i < 17 }
     ensures { result ≡ lane_at block.now (8 * i) }
 {
-    let q = 8 * i;
-    u64::from_le_bytes([
-        block[q],
-        block[q + 1],
-        block[q + 2],
-        block[q + 3],
-        block[q + 4],
-        block[q + 5],
-        block[q + 6],
-        block[q + 7],
-    ])
+    let (lanes, _) = block.as_chunks::<8>();
+    u64::from_le_bytes(lanes[i])
 }
 
 // Five lanes of a block, from lane i on.
@@ -86,6 +77,7 @@ fn put_lanes(out: &mut [u8], xs: &[u64])
     requires { length out.old ≡ 8 * length xs.now }
     ensures { out.new ≡ flat_map lane_bytes xs.now }
 {
+    // By place: of what `chunks_exact_mut` lends, no more than the length is known afterwards.
     for (i, x) in xs.iter().enumerate() {
         out[8 * i..8 * i + 8].copy_from_slice(&x.to_le_bytes());
     }

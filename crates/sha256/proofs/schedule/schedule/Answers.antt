@@ -2,7 +2,7 @@ use Rattle.std.proofs.Common.{◌≡◌, ◌+◌, ◌-◌, take, set, sym, ap, �
 use Rattle.std.proofs.lemmas.List.{take_all}
 use Rattle.sha256.specs.Compression.{extended}
 use Rattle.sha256.specs.Message.{block_at}
-use Rattle.sha256.proofs.Messages.{block_length, block_word}
+use Rattle.sha256.proofs.Messages.{block_length, chunk_word}
 use Rattle.sha256.proofs.Steps.{start, copy_more, extend_more}
 use Rattle.sha256.proofs.schedule.schedule.Goals as goal
 
@@ -13,7 +13,7 @@ loop-t-preserved c =
     let n = block_length b 0 in
     let t = c.loop-t.t in (
       length-set _ _ _ ∙ inv.0,
-      ap (λ x. take (t + 1) (set c.loop-t.w t x)) (c.word.ensures ∙ block_word b t (omega arith)) ∙ copy_more (block_at b 0) c.loop-t.w t (omega (arith, inv.0)) (omega arith) inv.1,
+      ap (λ x. take (t + 1) (set c.loop-t.w t x)) (c.from_be_bytes.ensures ∙ chunk_word b _ t (omega arith) c.as_chunks.ensures.front (omega arith)) ∙ copy_more (block_at b 0) c.loop-t.w t (omega (arith, inv.0)) (omega arith) inv.1,
     )
 
 pub loop-j-init : goal.loop-j-init
