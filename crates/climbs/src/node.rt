@@ -71,6 +71,7 @@ pub fn join<H: Hash>(left: &[u8; DIGEST_LEN], right: &[u8; DIGEST_LEN]) -> [u8; 
     ensures { result ≡ join_of plain_rule H.meaning left.now right.now }
 {
     let mut node = [0u8; DIGEST_LEN];
+    // Two nodes are never too long, and the buffer is a node.
     let _ = node_digest::<H>(left, right, &mut node);
     node
 }

@@ -28,6 +28,7 @@ pub(crate) fn leaf_node<H: Hash>(value: &[u8]) -> [u8; DIGEST_LEN]
     ensures { result ≡ leaf_of plain_rule H.meaning value.now }
 {
     let mut node = [0u8; DIGEST_LEN];
+    // The value is short enough, and the buffer is a node.
     let _ = leaf_digest::<H>(value, &mut node);
     node
 }

@@ -30,6 +30,7 @@ fn copy_path(tree: &[u8], depth: usize, n: usize, place: usize, out: &mut [u8])
     // The level's first entry, and how many it has.
     let mut start = 0;
     let mut width = n;
+    // By height, since a proof knows no byte of a buffer that was lent out in chunks.
     for h in 0..depth {
         let _ = copy_entry(tree, start + sibling(place), out, h);
         start += width;
