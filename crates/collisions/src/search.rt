@@ -28,7 +28,7 @@ pub(crate) fn search_nodes<H: Hash>(
         let below_b = Children::of(b, place, *sibling_b);
         a = below_a.parent::<H>();
         b = below_b.parent::<H>();
-        if below_a != below_b && a == b {
+        if below_a.differ(&below_b) && a == b {
             return ControlFlow::Break((below_a, below_b));
         }
         place /= 2;

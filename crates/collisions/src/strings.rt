@@ -1,5 +1,6 @@
 // The strings that are hashed on the way up, compared and written.
-ghost use Rattle.std.specs.Prelude.{◌≡◌, ◌+◌, ◌*◌, ◌<◌, ◌≤◌, ◌∷◌, ◌++◌, length};
+ghost use Rattle.std.specs.Prelude.{◌≡◌, ◌+◌, ◌*◌, ◌<◌, ◌≤◌, ◌∷◌, ◌++◌, length, not};
+ghost use Rattle.std.specs.Str.{bytes_eq};
 ghost use Rattle.collisions.specs.Finding.{at_front};
 ghost use Rattle.hash.specs.Digests.{digest_len, parts_limit};
 ghost use Rattle.merkle.specs.Climb.{above, alone, beside, input, leaf_of, plain_rule};
@@ -63,6 +64,14 @@ impl Children {
         ensures { result ≡ H.meaning (1 ∷ (self.now.left ++ self.now.right)) }
     {
         join::<H>(&self.left, &self.right)
+    }
+
+    // Whether what is hashed for it is not what is hashed over two others.
+    #[tactic(auto, using(crate::proofs::Levels::children_differ))]
+    pub(crate) fn differ(&self, other: &Children) -> bool
+        ensures { result ≡ not (bytes_eq (1 ∷ (self.now.left ++ self.now.right)) (1 ∷ (other.now.left ++ other.now.right))) }
+    {
+        self != other
     }
 
     // Writes what is hashed for it, and answers how many bytes that is.

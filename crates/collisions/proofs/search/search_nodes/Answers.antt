@@ -4,9 +4,9 @@ use Rattle.std.proofs.lemmas.List.{length_push}
 use Rattle.merkle.specs.Climb.{plain_rule, climb}
 use Rattle.merkle.specs.Binding.{collides, found}
 use Rattle.merkle.proofs.Chunks.{past_from, past_on, past_end}
-use Rattle.collisions.proofs.Levels.{no_difference, collide, no_agreement, children_differ, pair_hit, pair_miss, up_a, up_b, no_pair}
+use Rattle.collisions.proofs.Levels.{no_difference, collide, no_agreement, pair_hit, pair_miss, up_a, up_b, no_pair}
 use Rattle.collisions.proofs.search.search_nodes.Goals as goal
-use Rattle.collisions.proofs.search.search_nodes.Goals.{else-ne-via-then-ne+else-eq, else-ne-via-else-ne}
+use Rattle.collisions.proofs.search.search_nodes.Goals.{else-differ-via-then-differ+else-eq, else-differ-via-else-differ}
 
 pub returns-then-eq : goal.returns-then-eq
 returns-then-eq g c =
@@ -16,9 +16,9 @@ returns-then-eq g c =
     let below_a = c.of-below_a.result in
     let below_b = c.of-below_b.result in
     let turn = zip_turn pa pb c.loop-sibling_a.yielded c.into_iter-sibling_a-iterator.result c.loop-sibling_a.sibling_a-iterator c.next.new.self _ (cc) (cc) c.loop-sibling_a.yielded_by _ c.in-Some.is c.next.ensures.steps in
-    let differ = children_differ below_a.left below_a.right below_b.left below_b.right c.ne.result (omega arith) c.ne.ensures in
-    let hit = collide f (1 ∷ (below_a.left ++ below_a.right)) (1 ∷ (below_b.left ++ below_b.right)) c.ne.result differ
-    c.eq.result c.parent-a.result c.parent-b.result c.parent-a.ensures c.parent-b.ensures c.eq.ensures c.if-ne.true c.if-eq.true in
+    let differ = c.differ.ensures in
+    let hit = collide f (1 ∷ (below_a.left ++ below_a.right)) (1 ∷ (below_b.left ++ below_b.right)) c.differ.result differ
+    c.eq.result c.parent-a.result c.parent-b.result c.parent-a.ensures c.parent-b.ensures c.eq.ensures c.if-differ.true c.if-eq.true in
     sym c.loop-sibling_a.invariant.0
     ∙ pair_hit f (length c.loop-sibling_a.yielded) c.loop-sibling_a.place pa pb c.loop-sibling_a.a c.loop-sibling_a.b
     c.in-Some.sibling_a.now c.in-Some.sibling_b.now _ _ turn.0 turn.1 (turn.2 []) (turn.3 []) c.of-below_a.ensures c.of-below_b.ensures hit
@@ -42,11 +42,11 @@ loop-sibling_a-preserved g c =
     let y = 1 ∷ (below_b.left ++ below_b.right) in
     let inv = c.loop-sibling_a.invariant in
     let turn = zip_turn pa pb c.loop-sibling_a.yielded c.into_iter-sibling_a-iterator.result c.loop-sibling_a.sibling_a-iterator c.next.new.self _ (cc) (cc) c.loop-sibling_a.yielded_by _ c.in-Some.is c.next.ensures.steps in
-    let differ = children_differ below_a.left below_a.right below_b.left below_b.right c.ne.result (omega arith) c.ne.ensures in
+    let differ = c.differ.ensures in
     let miss : collides f x y ≡ false =
-    elim c.else-ne.branch [
-      | else-ne-via-then-ne+else-eq w ↦ no_agreement f x y c.ne.result differ w.eq.result u v c.parent-a.ensures c.parent-b.ensures w.eq.ensures w.if-eq.false
-      | else-ne-via-else-ne w ↦ no_difference f x y c.ne.result differ w.if-ne.false
+    elim c.else-differ.branch [
+      | else-differ-via-then-differ+else-eq w ↦ no_agreement f x y c.differ.result differ w.eq.result u v c.parent-a.ensures c.parent-b.ensures w.eq.ensures w.if-eq.false
+      | else-differ-via-else-differ w ↦ no_difference f x y c.differ.result differ w.if-differ.false
     ] in
     let more = length_push c.loop-sibling_a.yielded (c.in-Some.sibling_a, c.in-Some.sibling_b) in
     let ea = turn.2 [] in
