@@ -2,7 +2,6 @@
 // place by place, are the nodes above them in all columns. So no more than one row for each level has to be kept, and every leaf is
 // hashed once: its digest is used in its row's tree and in its column's.
 ghost use Rattle.std.specs.Prelude.{◌≡◌, ℕ, ◌+◌, ◌*◌, ◌^◌, ◌<◌, ◌≤◌, length};
-ghost use Rattle.octets.specs.Splice.{over};
 ghost use Rattle.commitment.specs.Roots.{line_leaf};
 ghost use Rattle.hash.specs.Digests.{digest_len};
 ghost use Rattle.merkle.specs.Climb.{join_of, plain_rule, slot};
@@ -39,16 +38,15 @@ fn join_rows<H: Hash>(work: &mut [u8], width: usize)
 }
 
 impl Cells<'_> {
-    // Hashes the cells of row i to the first row of digests, and writes the row's root.
-    fn put_row<H: Hash>(&self, i: usize, row: &mut [u8], roots: &mut [u8])
+    // Hashes the cells of row i to the first row of digests, and gives the root of the row's tree.
+    fn hash_row<H: Hash>(&self, i: usize, row: &mut [u8]) -> [u8; DIGEST_LEN]
         requires row { i < self.now.lengths.width }
-        requires room { (digest_len * self.now.lengths.width ≤ length row.old) × (length roots.old ≡ digest_len * (2 * self.now.lengths.width)) }
+        requires room { digest_len * self.now.lengths.width ≤ length row.old }
         ensures leaves { (j : ℕ) → j < self.now.lengths.width → slot j row.new ≡ line_leaf H.meaning self.now.lengths.width self.now.lengths.share self.now.shares.now i j }
-        ensures root { roots.new ≡ over (digest_len * i) (root (join_of plain_rule H.meaning) self.now.lengths.depth (line_leaf H.meaning self.now.lengths.width self.now.lengths.share self.now.shares.now i)) roots.old }
+        ensures root { result ≡ root (join_of plain_rule H.meaning) self.now.lengths.depth (line_leaf H.meaning self.now.lengths.width self.now.lengths.share self.now.shares.now i) }
     {
         self.put_line::<H>(i, row);
-        let root = row_root::<H>(&row[..DIGEST_LEN * self.lengths.width], self.lengths.depth);
-        let _ = put_entry(roots, i, &root);
+        row_root::<H>(&row[..DIGEST_LEN * self.lengths.width], self.lengths.depth)
     }
 
     // Writes node i of level `level` of every column's tree to the first row of `work`, and the roots of the rows below it; the rows
@@ -61,7 +59,8 @@ impl Cells<'_> {
         ensures rows { (n : ℕ) → n < (i + 1) * 2 ^ level → slot n roots.new ≡ root (join_of plain_rule H.meaning) self.now.lengths.depth (line_leaf H.meaning self.now.lengths.width self.now.lengths.share self.now.shares.now n) }
     {
         if level == 0 {
-            self.put_row::<H>(i, work, roots);
+            let root = self.hash_row::<H>(i, work);
+            let _ = put_entry(roots, i, &root);
         } else {
             let below = level - 1;
             let row = DIGEST_LEN * self.lengths.width;

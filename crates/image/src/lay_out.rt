@@ -22,6 +22,7 @@ fn put_row_trees<H: Hash>(cells: &Cells, trees: &mut [u8])
     ensures { trees.new ≡ row_trees H.meaning (fields_of cells.now.header.now) cells.now.shares.now cells.now.lengths.width }
 {
     let size = cells.lengths.axis_tree;
+    // By index: of a loop over a buffer's mutable chunks no proof sees what the buffer holds.
     for row in 0..cells.lengths.width {
         let _ = cells.line_tree::<H>(row, &mut trees[row * size..(row + 1) * size]);
     }

@@ -1,10 +1,12 @@
-use Rattle.std.proofs.Common.{◌≡◌, ℕ, ◌+◌, ◌-◌, ◌<◌, sym, ap, ◌∙◌, ap₂, arith, length-drop, length-take}
+use Rattle.std.proofs.Common.{◌≡◌, ℕ, ◌+◌, ◌-◌, ◌*◌, ◌<◌, sym, ap, ◌∙◌, ap₂, arith, length-drop, length-take}
+use Rattle.octets.specs.Splice.{over}
+use Rattle.hash.specs.Digests.{digest_len}
 use Rattle.merkle.specs.Tree.{node, root}
 use Rattle.merkle.specs.Climb.{Node, join_of, plain_rule}
 use Rattle.merkle.proofs.Climbing.{node_start, node_more}
 use Rattle.layout.proofs.Entries.{entries_more}
 use Rattle.commitment.specs.Roots.{line_leaf}
-use Rattle.commitment.proofs.Folds.{halves, range_row, rows_below, leaf_turned, one_row, rest_front, rest_behind}
+use Rattle.commitment.proofs.Folds.{halves, range_row, rows_below, leaf_turned, one_row, put_in, rest_front, rest_behind}
 use Rattle.commitment.proofs.Trees.{root_sized}
 use Rattle.commitment.proofs.cells.Cells.+fold.Goals as goal
 
@@ -30,7 +32,7 @@ returns-then-level-eq0-clause-columns g t c j l =
     let i = c.args.i in
     let none : c.args.level ≡ 0 = omega arith in
     let leaf : ℕ → Node = line_leaf f w s.lengths.share s.shares.now (w + j) in
-    c.put_row.ensures.leaves j l
+    c.hash_row-root.ensures.leaves j l
     ∙ leaf_turned f w s.lengths.share s.shares.now i j (range_row i c.args.level w c.requires.rows)
     ∙ sym (node_start (join_of plain_rule f) leaf i)
     ∙ ap (λ h. node (join_of plain_rule f) leaf h i) (sym none)
@@ -45,7 +47,9 @@ returns-then-level-eq0-clause-rows g t c n l =
     let none : c.args.level ≡ 0 = omega arith in
     let row : i < w = range_row i c.args.level w c.requires.rows in
     let of : ℕ → Node = λ n. root (join_of plain_rule f) s.lengths.depth (line_leaf f w s.lengths.share s.shares.now n) in
-    entries_more of i c.args.roots.now _ c.put_row.ensures.root (root_sized f sized (line_leaf f w s.lengths.share s.shares.now i) s.lengths.depth (sized _)) (omega arith)
+    entries_more of i c.args.roots.now _
+    (c.put_entry.ensures.written ∙ put_in i _ c.args.roots.now (omega arith) ∙ ap (λ z. over (digest_len * i) z c.args.roots.now) c.hash_row-root.ensures.root)
+    (root_sized f sized (line_leaf f w s.lengths.share s.shares.now i) s.lengths.depth (sized _)) (omega arith)
     (λ m b. c.requires.done m (omega (arith, one_row i c.args.level none))) n (omega (arith, one_row (i + 1) c.args.level none))
 
 pub returns-else-level-eq0-clause-columns : goal.returns-else-level-eq0-clause-columns
