@@ -1,3 +1,2 @@
 pub mod Climbs
-pub mod Joining
 pub mod Proving
