@@ -1,14 +1,14 @@
 -- The witnesses of a proof, one after the other.
-use Rattle.std.proofs.Common.{◌≡◌, ℕ, zero, suc, ◌+◌, ◌-◌, ◌*◌, ◌/◌, ◌<◌, ◌≤◌, Bool, true, false, cond, ltb, List, [], ◌∷◌, ◌++◌, map, length, get_or, take, drop, Some, None, Option, sym, refl, ap, ◌∙◌, subst, inl, inr, suc-mul, zero-add, arith, lit<, length-append, length-take}
-use Rattle.std.specs.List.{range_with_len, flat_map}
+use Rattle.std.proofs.Common.{◌≡◌, ℕ, zero, suc, ◌+◌, ◌-◌, ◌*◌, ◌/◌, ◌<◌, ◌≤◌, Bool, true, not, List, [], ◌∷◌, ◌++◌, map, length, get_or, take, drop, Some, None, Option, sym, refl, ap, ◌∙◌, subst, inl, inr, suc-mul, zero-add, arith, lit<, length-append, length-take}
+use Rattle.std.specs.List.{range_with_len, flat_map, position_from}
 use Rattle.std.proofs.lemmas.List.FromFn.{length-map-range_with_len, get_or-map-range_with_len}
 use Rattle.std.proofs.lemmas.List.{ext_get_or, get_or_append_left, get_or-append_right, get_or-take, get_or-drop, get_or_past}
-use Rattle.std.proofs.lemmas.Bool.{cond-true, cond-false, cases_Bool, cases_lt, lt-ltb}
+use Rattle.std.proofs.lemmas.Bool.{cond-true, cond-false, cases_Bool, cases_lt}
 use Rattle.std.proofs.lemmas.Nat.{div-mul-add}
 use Rattle.header.specs.Fields.{Fields}
 use Rattle.wire.specs.Values.{Witness}
 use Rattle.fraudproof.specs.Proof.{witness_len, witness_at}
-use Rattle.fraudproof.specs.Witness.{witness_in}
+use Rattle.fraudproof.specs.Witness.{witnesses_of}
 use Rattle.fraud.specs.Accepted.{Every, places_of, shares_of}
 use Rattle.fraud.specs.Check.{first_failing}
 
@@ -28,26 +28,59 @@ module _ (test : Witness → Bool) where
   every_stands n [] h = refl
   every_stands n (w ∷ ws) h = cond-true (test w) _ _ h.0 ∙ every_stands (n + 1) ws h.1
 
-  -- going through the witnesses: those from i on are left
-  module _ (g : ℕ → Witness) where
-    from_there : (i m : ℕ) → first_failing test i (map g (range_with_len i (suc m))) ≡ cond (test (g i)) (first_failing test (i + 1) (map g (range_with_len (i + 1) m))) (Some i)
-    unfolding first_failing
-    from_there i m = refl
+  -- it is the first at which the test's denial holds
+  pub first_is : (n : ℕ) (ws : List Witness) → position_from (λ w. not (test w)) n ws ≡ first_failing test n ws
+  unfolding first_failing
+  first_is n [] = refl
+  first_is n (w ∷ ws) =
+      elim (cases_Bool (test w)) [
+        | inl t ↦ rw t (first_is (n + 1) ws)
+        | inr f ↦ rw f refl
+      ]
 
-    pub fails_later : (i k : ℕ) → i < k → test (g i) ≡ true
-        → first_failing test i (map g (range_with_len i (k - i))) ≡ first_failing test (i + 1) (map g (range_with_len (i + 1) (k - (i + 1))))
-    fails_later i k l t =
-        let e : k - i ≡ suc (k - (i + 1)) = omega arith in
-        ap (λ m. first_failing test i (map g (range_with_len i m))) e ∙ from_there i (k - (i + 1)) ∙ cond-true (test (g i)) _ _ t
+-- ---- going through the witnesses
 
-    pub fails_here : (i k : ℕ) → i < k → test (g i) ≡ false → first_failing test i (map g (range_with_len i (k - i))) ≡ Some i
-    fails_here i k l f =
-        let e : k - i ≡ suc (k - (i + 1)) = omega arith in
-        ap (λ m. first_failing test i (map g (range_with_len i m))) e ∙ from_there i (k - (i + 1)) ∙ cond-false (test (g i)) _ _ f
+pub witnesses_are : (h : Fields) (ws : List ℕ) → length ws ≡ h.k * witness_len h → witnesses_of h ws ≡ map (witness_at h ws) (range_with_len 0 h.k)
+unfolding witnesses_of
+witnesses_are h ws long =
+    ap (λ n. map (witness_at h ws) (range_with_len 0 (n / witness_len h))) (let t : length ws ≡ h.k * witness_len h + 0 = omega arith in t)
+    ∙ ap (λ n. map (witness_at h ws) (range_with_len 0 n)) (div-mul-add h.k (witness_len h) 0 (omega arith))
 
-    pub fails_none : (i k : ℕ) → k ≤ i → first_failing test i (map g (range_with_len i (k - i))) ≡ None
-    unfolding first_failing
-    fails_none i k l = let e : k - i ≡ 0 = omega arith in ap (λ m. first_failing test i (map g (range_with_len i m))) e
+first_of_two : {v w : Witness} {vs ws : List Witness} → ◌≡◌ {A = List Witness} (v ∷ vs) (w ∷ ws) → v ≡ w
+first_of_two e = cc
+
+others_of_two : {v w : Witness} {vs ws : List Witness} → ◌≡◌ {A = List Witness} (v ∷ vs) (w ∷ ws) → vs ≡ ws
+others_of_two e = cc
+
+never_nil : {A : Type 0} (w : Witness) (ws : List Witness) → ◌≡◌ {A = List Witness} (w ∷ ws) [] → A
+never_nil w ws e = absurd (let z : ◌≡◌ {A = ℕ} 0 1 = cc in omega arith)
+
+module _ (g : ℕ → Witness) (i k : ℕ) where
+  -- those from i on are left, and one comes
+  pub record Turn (w : Witness) (ws : List Witness) : Type 0 where
+    pub more : i < k
+    pub here : w ≡ g i
+    pub others : ws ≡ map g (range_with_len (i + 1) (k - (i + 1)))
+
+  pub left_turn : (w : Witness) (ws left : List Witness) → left ≡ map g (range_with_len i (k - i)) → left ≡ w ∷ ws → Turn w ws
+  left_turn w ws left is cut =
+      elim (cases_lt i k) [
+        | inl l ↦
+            let e : k - i ≡ suc (k - (i + 1)) = omega arith in
+            let both : w ∷ ws ≡ g i ∷ map g (range_with_len (i + 1) (k - (i + 1))) = sym cut ∙ is ∙ ap (λ m. map g (range_with_len i m)) e in
+            record { more = l; here = first_of_two both; others = others_of_two both }
+        | inr l ↦ let e : k - i ≡ 0 = omega arith in never_nil w ws (sym cut ∙ is ∙ ap (λ m. map g (range_with_len i m)) e)
+      ]
+
+  -- or none is left
+  pub left_end : (left : List Witness) → left ≡ map g (range_with_len i (k - i)) → left ≡ [] → k ≤ i
+  left_end left is none =
+      elim (cases_lt i k) [
+        | inl l ↦
+            let e : k - i ≡ suc (k - (i + 1)) = omega arith in
+            never_nil (g i) (map g (range_with_len (i + 1) (k - (i + 1)))) (sym (ap (λ m. map g (range_with_len i m)) e) ∙ sym is ∙ none)
+        | inr l ↦ l
+      ]
 
 -- ---- the places
 
@@ -106,16 +139,3 @@ part_small s m xs n small =
       | inl l ↦ subst (λ x. x < 256) (sym (get_or-take s (drop m xs) n 0 l ∙ get_or-drop m xs n 0)) (small (m + n))
       | inr l ↦ subst (λ x. x < 256) (sym (get_or_past (take s (drop m xs)) n 0 (simp length-take (omega arith)))) (lit< tt)
     ]
-
--- ---- the records
-
--- each of the k witnesses is there
-pub witness_found : (h : Fields) (ws : List ℕ) (i : ℕ) → length ws ≡ h.k * witness_len h → i < h.k
-    → ◌≡◌ {A = Option Witness} (witness_in h ws i) (Some (witness_at h ws i))
-witness_found h ws i long l =
-    let e : length ws / witness_len h ≡ h.k =
-    ap (λ n. n / witness_len h) (let t : length ws ≡ h.k * witness_len h + 0 = omega arith in t) ∙ div-mul-add h.k (witness_len h) 0 (omega arith) in
-    cond-true (ltb i (length ws / witness_len h)) _ _ (ap (ltb i) e ∙ lt-ltb i h.k l)
-
-pub never_none : {A : Type 0} (w : Witness) → ◌≡◌ {A = Option Witness} None (Some w) → A
-never_none w e = absurd (let z : ◌≡◌ {A = ℕ} 0 1 = cc in omega arith)

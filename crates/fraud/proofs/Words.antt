@@ -1,5 +1,7 @@
 -- The codeword through the witnesses, cell by cell.
-use Rattle.std.proofs.Common.{◌≡◌, ℕ, ◌+◌, ◌-◌, ◌*◌, ◌<◌, ◌≤◌, true, List, map, length, get_or, take, drop, replicate, sym, ap, ◌∙◌, subst, arith, lit<, length-drop, length-take}
+use Rattle.std.proofs.Common.{◌≡◌, ℕ, ◌+◌, ◌-◌, ◌*◌, ◌<◌, ◌≤◌, true, List, ◌++◌, map, length, get_or, take, drop, replicate, sym, ap, ◌∙◌, subst, arith, lit<, length-append, length-drop, length-take, add-mul, drop-drop}
+use Rattle.std.proofs.Math.Nat.{le_of_mul-le-mul_right, lt_of_mul-lt-mul_right}
+use Rattle.std.proofs.Math.Seq.{take-append_seam, drop-append_seam}
 use lib.ListN.{length-replicate}
 use Rattle.std.specs.List.{range_with_len}
 use Rattle.std.proofs.lemmas.List.{ext_get_or, get_or-take, get_or-drop}
@@ -135,3 +137,37 @@ rows_are W k ps old new long wide rises room e =
 -- the part of a space that is taken
 pub space_long : (n m : ℕ) → n ≤ m → length (take (n - 0) (drop 0 (replicate {A = ℕ} m 0))) ≡ n
 space_long n m l = simp (length-take, length-drop, length-replicate) (omega arith)
+
+-- ---- going through the rows of weights
+
+module _ (k i : ℕ) (rows rest : List ℕ) (is : rest ≡ drop (i * k) rows) where
+  -- row i comes
+  pub record Row (row behind : List ℕ) : Type 0 where
+    pub more : i * k + k ≤ length rows
+    pub here : row ≡ share k i rows
+    pub others : behind ≡ drop ((i + 1) * k) rows
+
+  pub row_turn : (row behind : List ℕ) → i * k ≤ length rows → rest ≡ row ++ behind → length row ≡ k → Row row behind
+  unfolding share
+  row_turn row behind inside cut long =
+      let n : length rest ≡ length row + length behind = ap length cut ∙ length-append row behind in
+      let m : length rest ≡ length rows - i * k = ap length is ∙ length-drop (i * k) rows in
+      let size : i * k + k ≡ (i + 1) * k = omega (arith, add-mul i 1 k) in
+      record {
+        more = omega (arith, n, m, long, inside);
+        here = sym (ap (take k) (sym is ∙ cut) ∙ ap (λ n. take n (row ++ behind)) (sym long) ∙ take-append_seam row behind);
+        others = sym (ap (λ x. drop x rows) (sym size) ∙ sym (drop-drop k (i * k) rows) ∙ ap (drop k) (sym is ∙ cut) ∙ ap (λ n. drop n (row ++ behind)) (sym long) ∙ drop-append_seam row behind);
+      }
+
+  -- there are no more than n rows in n times k bytes, and no fewer where none comes
+  pub row_few : (n : ℕ) → 0 < k → length rows ≡ n * k → i * k + k ≤ length rows → i < n
+  row_few n some long more =
+      let size : i * k + k ≡ (i + 1) * k = omega (arith, add-mul i 1 k) in
+      let l : (i + 1) * k ≤ n * k = omega (arith, size, long, more) in
+      omega (arith, le_of_mul-le-mul_right l some)
+
+  pub row_end : (n : ℕ) → length rows ≡ n * k → i * k ≤ length rows → length rest < k → n ≤ i
+  row_end n long inside short =
+      let size : i * k + k ≡ (i + 1) * k = omega (arith, add-mul i 1 k) in
+      let l : n * k < (i + 1) * k = omega (arith, size, long, ap length is, length-drop (i * k) rows, inside, short) in
+      omega (arith, lt_of_mul-lt-mul_right k l)

@@ -7,10 +7,10 @@ use Rattle.codes.specs.Code.{Table}
 use Rattle.codes.specs.Words.{Through}
 use Rattle.erasure.specs.Places.{rising_below}
 use Rattle.header.specs.Fields.{Fields}
-use Rattle.header.specs.Lines.{row_at, col_at}
+use Rattle.header.specs.Lines.{axis_by, row_at, col_at}
 use Rattle.header.specs.Sizes.{width, depth, line_number}
 use Rattle.commitment.specs.Values.{value_root}
-use Rattle.evidence.specs.Evidence.{axis_by, verifies}
+use Rattle.evidence.specs.Evidence.{verifies}
 use Rattle.wire.specs.Values.{Claim, Witness}
 use Rattle.fraudproof.specs.Proof.{Case}
 use Rattle.fraudproof.specs.Form.{case_outcome}

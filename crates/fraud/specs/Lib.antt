@@ -1,3 +1,4 @@
 pub mod Accepted
+pub mod Charge
 pub mod Check
 pub mod Refusals

@@ -5,7 +5,7 @@ ghost use Rattle.fraud.specs.Refusals.{told};
 ghost use Rattle.header.specs.Fields.{fields_of};
 ghost use Rattle.std.specs.Prelude.{◌≡◌};
 
-use crate::case::check_case;
+use crate::charge::Charge;
 use crate::refusal::FraudRefusal;
 use erasure::code::Code;
 use fraudproof::read::read_proof;
@@ -23,8 +23,9 @@ pub fn check_proof<H: Hash, C: Code>(h: &Header, bytes: &[u8]) -> Result<(), Fra
     if h.code_kind != C::kind_byte() {
         return Err(FraudRefusal::OtherCode);
     }
-    match read_proof(h, bytes) {
-        Ok(p) => check_case::<H, C>(h, &p),
-        Err(e) => Err(FraudRefusal::Unreadable(e)),
-    }
+    let charge = Charge {
+        header: h,
+        proof: read_proof(h, bytes)?,
+    };
+    charge.judge::<H, C>()
 }

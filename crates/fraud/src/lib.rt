@@ -1,11 +1,13 @@
 // Checking proofs of bad encoding.
 #![tactic(auto)]
 
-mod case;
+pub mod charge;
 pub mod check;
 mod claim;
-pub mod lines;
+mod judge;
 pub mod numbers;
 pub mod refusal;
+mod shown;
+mod sums;
 mod witnesses;
 mod word;

@@ -2,6 +2,7 @@
 #![tactic(auto)]
 
 pub mod cut;
+pub mod line;
 pub mod proof;
 pub mod read;
 pub mod witness;
