@@ -86,7 +86,8 @@ pub fn encode<C: Code>(k: usize, s: usize, shares: &[u8], out: &mut [u8]) -> Res
         return Err(CodeRefusal::WrongLength);
     }
     out[0..k * s].copy_from_slice(shares);
-    Ok(parity::<C>(k, s, shares, &mut out[k * s..])?)
+    parity::<C>(k, s, shares, &mut out[k * s..])?;
+    Ok(())
 }
 
 // Recovers a codeword from k of its shares, of s bytes each, whose places are named: out becomes the codeword through them.

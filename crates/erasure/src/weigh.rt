@@ -102,6 +102,7 @@ impl Given<'_> {
         requires { (length shares.now ≡ length self.now.places.now) × ((i < 2 * length self.now.places.now) × (length row.old ≡ length self.now.places.now)) }
         ensures { (j : ℕ) → j < length self.now.places.now → slice_index row.new j ≡ weight_by of_symbol (at shares.now j) i (at self.now.places.now j) }
     {
+        // Of what is written through a `zip` over `iter_mut` a proof knows nothing.
         for (j, entry) in row.iter_mut().enumerate() {
             *entry = weight(of_symbol, shares[j], i, self.places[j]);
         }
@@ -114,8 +115,8 @@ impl Given<'_> {
         ensures { (i : ℕ) → i < 2 * length self.now.places.now → (j : ℕ) → j < length self.now.places.now → byte_of (length self.now.places.now) i j rows.new ≡ weight_by (mul (at symbols.now i) (numerator (length self.now.places.now) (at self.now.places.now) i)) (at shares.now j) i (at self.now.places.now j) }
     {
         let k = self.places.len();
-        for i in 0..2 * k {
-            let of_symbol = product(symbols[i], self.numerator(i));
+        for (i, factor) in symbols.iter().enumerate() {
+            let of_symbol = product(*factor, self.numerator(i));
             self.weight_row(shares, of_symbol, i, &mut rows[i * k..i * k + k]);
         }
     }
