@@ -83,6 +83,3 @@ loop-m-preserved c =
 
 pub shape_of-word : goal.shape_of-word
 shape_of-word c = c.loop-m.invariant.0
-
-pub returns : goal.returns
-returns c = λ m hm b hb. c.loop-m.invariant.1 m (omega arith) b hb

@@ -49,6 +49,3 @@ loop-r-preserved g c =
     (take (r * line + line - r * line) (drop (r * line) sq)) c.encode.new.out c.requires.0 c.requires.1.0
     (ap length (share_read (k * s) r xs) ∙ share_length (k * s) r k xs c.requires.1.1.0 c.loop-r-test.true) part c.encode.ensures.word
     ∙ ap (codeword g.C.Code.table k s) (share_read (k * s) r xs)))
-
-pub returns : goal.returns
-returns g c = λ r hr x hx. c.loop-r.invariant r (omega arith) x hx

@@ -3,7 +3,7 @@ use lib.Bits.{bit_xor}
 use Rattle.galois.specs.Field.{mul, inv}
 use Rattle.codes.specs.Over.{over, except}
 use Rattle.codes.specs.Code.{cauchy_scale}
-use Rattle.erasure.proofs.Factors.{byte_xor, product_none, except_more, except_skip}
+use Rattle.erasure.proofs.Factors.{product_none, except_more, except_skip}
 use Rattle.erasure.proofs.kinds.CauchyScaled.factor.Goals as goal
 use Rattle.erasure.proofs.kinds.CauchyScaled.factor.Goals.{then-m-i, else-m-i}
 
@@ -12,9 +12,6 @@ factor i m = inv (bit_xor i m)
 
 pub loop-m-init : goal.loop-m-init
 loop-m-init c = product_none (except 1 c.args.i (factor c.args.i))
-
-pub overflow_cast-i : goal.overflow_cast-i
-overflow_cast-i c = record { fits = byte_xor c.args.i c.loop-m.m (omega arith) (omega arith) }
 
 pub loop-m-preserved : goal.loop-m-preserved
 loop-m-preserved c =
