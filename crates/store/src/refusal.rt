@@ -1,4 +1,4 @@
-// Why a call on a store is refused.
+// Why a call on a store is refused. A square's calls refuse by these and by two more, which no caller of a store has to look for.
 use thiserror::Error;
 
 #[derive(Clone, Copy, PartialEq, Eq, Debug, Error)]

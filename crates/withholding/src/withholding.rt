@@ -54,7 +54,7 @@ impl<S: Store> Withholding<S> {
         }
     }
 
-    // Hides exactly the cells whose mark is 1.
+    // Hides exactly the cells whose mark is 1. Marks are bytes, as in the files and the calls that hand them over.
     pub fn withhold(&mut self, marks: &[u8]) -> Result<(), StoreRefusal>
         ensures answer { outcome told result ≡ withhold_outcome (S.Store.meaning self.old.below) marks.now }
         ensures below { self.new.below ≡ self.old.below }
@@ -76,6 +76,7 @@ impl<S: Store> Withholding<S> {
     fn hides(&self, cell: Cell) -> bool
         ensures { result ≡ (has_cell (block (S.Store.meaning self.now.below).k (S.Store.meaning self.now.below).s) cell.row cell.col && hides (S.Store.meaning self.now.below) self.now.hidden cell.row cell.col) }
     {
+        // The k and the share size of a store are always allowed.
         let Ok(shape) = shape_of(self.below.half_width(), self.below.share_size()) else {
             return false;
         };
