@@ -1,9 +1,9 @@
 -- The shares behind the data.
-use Rattle.std.proofs.Common.{◌≡◌, ℕ, ◌+◌, ◌-◌, ◌*◌, ◌/◌, ◌%◌, ◌<◌, ◌≤◌, true, cond, ◌&&◌, eqb, ltb, leb, List, ◌++◌, length, get_or, take, drop, sym, ap, ◌∙◌, subst, ap₂, inl, inr, mod-lt, div-add-mod', arith, lit<, length-append, length-drop, length-take}
+use Rattle.std.proofs.Common.{◌≡◌, ℕ, ◌+◌, ◌-◌, ◌*◌, ◌/◌, ◌%◌, ◌<◌, ◌≤◌, true, cond, ◌&&◌, eqb, ltb, leb, List, ◌++◌, length, get_or, take, drop, sym, ap, ◌∙◌, subst, ap₂, inl, inr, mod-lt, arith, lit<, length-append, length-drop, length-take}
 use borrow.Rule.Slice.PartMut.{put_mid}
 use Rattle.std.proofs.lemmas.Nat.{div-mul-add, mod-mul-add, mul-le}
 use Rattle.std.proofs.lemmas.List.{take-append-drop, take_at, get_or-take}
-use Rattle.std.proofs.lemmas.Bool.{and_parts, and_from, eqb-true, eq-eqb, ne_eqb, leb-true, le-leb, lt-ltb, le-ltb, cases_eq, cases_lt, cond-true, cond-false}
+use Rattle.std.proofs.lemmas.Bool.{and_parts, and_from, eqb-true, eq-eqb, leb-true, le-leb, lt-ltb, le-ltb, cases_lt, cond-true, cond-false}
 use Rattle.octets.specs.Shares.{share, byte_of}
 use Rattle.octets.proofs.Shares.{same_from_bytes, byte_take, share_read, share_length, share_byte_lem}
 use Rattle.octets.proofs.Cells.{both_halves, byte_drop, byte_cell, by_cells, cell_below, put_rest}
@@ -19,20 +19,6 @@ use Rattle.erasure.proofs.Tables.{table_byte, table_long}
 use Rattle.erasure.proofs.Recovers.{first_rises}
 
 -- ---- lengths
-
--- n is k times the size if the quotient is the size and nothing is left
-pub holds_by_rest : (k size n : ℕ) → n / k ≡ size → eqb (n % k) 0 ≡ eqb n (k * size)
-holds_by_rest k size n e =
-    let d : size * k + n % k ≡ n = ap (λ (x : ℕ). x * k + n % k) (sym e) ∙ div-add-mod' n k in
-    elim (cases_eq (n % k) 0) [
-      | inl z ↦ eq-eqb (n % k) 0 z ∙ sym (eq-eqb n (k * size) (omega arith))
-      | inr z ↦ ne_eqb (n % k) 0 z ∙ sym (ne_eqb n (k * size) (λ f. z (omega arith)))
-    ]
-
-pub holds_not : (k size n : ℕ) → 0 < k → (n / k ≡ size → ⊥) → eqb (n / k) size ≡ eqb n (k * size)
-holds_not k size n h d =
-    ne_eqb (n / k) size d
-    ∙ sym (ne_eqb n (k * size) (λ f. d (ap (λ (x : ℕ). x / k) (let e : n ≡ size * k + 0 = omega arith in e) ∙ div-mul-add size k 0 h)))
 
 -- what it takes to have a parity
 pub record ParityFits (k size n m : ℕ) : Type 0 where

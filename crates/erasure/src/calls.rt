@@ -39,12 +39,11 @@ fn fill_word<C: Code>(places: &[u16], s: usize, shares: &[u8], out: &mut [u8])
     apply_rows(rows, 2 * k, k, s, shares, out);
 }
 
-// Whether n bytes are k shares of this size. A product of such numbers could be too large to be worked out.
+// Whether n bytes are k shares of this size.
 pub(crate) fn holds(k: usize, size: usize, n: usize) -> bool
-    requires { 0 < k }
     ensures { result ≡ (n == (k * size)) }
 {
-    n / k == size && n % k == 0
+    k.checked_mul(size) == Some(n)
 }
 
 // Whether k shares can be encoded, and n and m bytes are k shares of this size each.

@@ -1,13 +1,6 @@
 use Rattle.std.proofs.Common.{sym, ◌∙◌}
 use Rattle.erasure.specs.Calls.{parity_fits}
-use Rattle.erasure.proofs.Bounds.{width_some}
 use Rattle.erasure.proofs.calls.parity_fits.Goals as goal
-
-pub holds-requires : goal.holds-requires
-holds-requires c = width_some c.args.k (sym c.if-not-ok_width.ensures)
-
-pub holds-requires-then-holds : goal.holds-requires-then-holds
-holds-requires-then-holds c = width_some c.args.k (sym c.if-not-ok_width.ensures)
 
 pub returns-then-holds : goal.returns-then-holds
 unfolding parity_fits
