@@ -1,4 +1,5 @@
 // What two climbs are compared by, and where what is found is written.
+
 // The value of a leaf, and the path by which it climbs.
 #[derive(Clone, Copy)]
 pub struct Branch<'a> {
