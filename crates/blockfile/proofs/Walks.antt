@@ -1,5 +1,5 @@
 -- The walk over a file, with the index in the place of the list of shares.
-use Rattle.std.proofs.Common.{◌≡◌, ℕ, suc, ◌+◌, ◌-◌, ◌<◌, ◌≤◌, Bool, true, false, cond, not, eqb, ltb, List, [], ◌∷◌, length, get_or, drop, replicate, is_some, None, Ok, Err, Option, Result, sym, refl, ap, ◌∙◌, subst, inl, inr, arith, length-drop, drop-drop, Bor}
+use Rattle.std.proofs.Common.{◌≡◌, ℕ, suc, ◌+◌, ◌-◌, ◌<◌, ◌≤◌, Bool, true, false, cond, not, ◌≢◌, eqb, ltb, List, [], ◌∷◌, length, get_or, drop, replicate, is_some, None, Ok, Err, Option, Result, sym, refl, ap, ◌∙◌, subst, inl, inr, arith, length-drop, drop-drop, Bor}
 use lib.ListN.{length-replicate, get_or-replicate}
 use Rattle.std.proofs.lemmas.List.{get_or_past}
 use Rattle.std.proofs.lemmas.Bool.{cond-true, cond-false, cases_Bool, ltb-true, ltb-false, lt-ltb, eqb-false}
@@ -150,6 +150,9 @@ nothing_there n i = elim (cases_Bool (ltb i n)) [
   | inr f ↦ let m = length-replicate {A = ℕ} n 0 in let q = ltb-false i n f in let le : length (replicate {A = ℕ} n 0) ≤ i = omega arith in get_or_past (replicate {A = ℕ} n 0) i 0 le
 ]
 
+pub none_within : (n m : ℕ) (ix : Index) → ix ≡ no_places → (i : ℕ) → i < 4096 → (get_or ix.at i 0 ≢ 0) → get_or ix.at i 0 + m ≤ n
+none_within n m ix e i l some' = absurd (some' (ap (λ p. get_or p i 0) (ap (λ j. j.at) e) ∙ nothing_there 4096 i))
+
 -- an index that names no record says nothing of every cell
 pub empty_standing : (h : Fields) (bs : List ℕ) (ix : Index) → ix ≡ no_places → Standing h bs [] ix
 unfolding indexed shown_in
@@ -157,7 +160,7 @@ empty_standing h bs ix e = record {
   kept = λ r c. ap (λ l. cond (has_cell h r c) (evidence_by h bs (get_or l (cell_number h r c) 0) (get_or ix.axis (cell_number h r c) Row)) None) (ap (λ i. i.at) e)
       ∙ ap (λ p. cond (has_cell h r c) (evidence_by h bs p (get_or ix.axis (cell_number h r c) Row)) None) (nothing_there 4096 (cell_number h r c))
       ∙ same_both (has_cell h r c);
-  within = λ i l some'. absurd (some' (ap (λ p. get_or p i 0) (ap (λ j. j.at) e) ∙ nothing_there 4096 i));
+  within = none_within _ _ ix e;
   at_long = ap (λ i. length i.at) e ∙ length-replicate {A = ℕ} 4096 0;
   axis_long = ap (λ i. length i.axis) e ∙ length-replicate {A = Axis} 4096 Row;
 }

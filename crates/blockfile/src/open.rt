@@ -69,8 +69,9 @@ impl<'a> BlockFile<'a> {
     pub fn empty() -> BlockFile<'a>
         ensures { Means result nothing }
     {
+        let header = Header::smallest();
         BlockFile {
-            header: Header::smallest(),
+            header,
             roots: &[],
             bytes: &[],
             index: Index::empty(),
