@@ -33,7 +33,7 @@ pub trait Hash {
         ensures written { out.new ≡ digest_out (length left.now + length right.now) out.old (meaning (lead ∷ (left.now ++ right.now))) }
     {
         admit(left.len(), right.len(), out.len())?;
-        out.copy_from_slice(&Self::of(&Message::new(&[lead], left, right)));
+        out.copy_from_slice(&Self::of(&Message::of_parts(&[lead], left, right)?));
         Ok(())
     }
 
@@ -43,7 +43,7 @@ pub trait Hash {
         ensures written { out.new ≡ digest_out (length message.now) out.old (meaning message.now) }
     {
         admit(message.len(), 0, out.len())?;
-        out.copy_from_slice(&Self::of(&Message::new(&[], message, &[])));
+        out.copy_from_slice(&Self::of(&Message::of_parts(&[], message, &[])?));
         Ok(())
     }
 

@@ -12,6 +12,9 @@ pub const DIGEST_LEN: usize = 32;
 // The most bytes that the two parts of a digest may have together.
 pub const PARTS_LIMIT: usize = 4096;
 
+// The most bytes of a message: a lead byte and the two parts of a digest.
+pub const MESSAGE_LIMIT: usize = PARTS_LIMIT + 1;
+
 // Whether a digest of parts with these lengths can be written to a buffer of `out` bytes.
 pub fn admit(left: usize, right: usize, out: usize) -> Result<(), DigestRefusal>
     ensures { outcome told result ≡ digest_outcome (left + right) out }

@@ -1,7 +1,12 @@
 // Messages to be hashed.
 ghost use Rattle.std.specs.Prelude.{◌≡◌, ◌+◌, ◌≤◌, ◌++◌, ℕ, List, length};
+ghost use Rattle.octets.specs.Outcome.{outcome};
 ghost use Rattle.hash.specs.Blocks.{message_limit};
+ghost use Rattle.hash.specs.Digests.{message_outcome};
+ghost use Rattle.hash.specs.Refusals.{told};
 
+use crate::limits::MESSAGE_LIMIT;
+use crate::refusal::DigestRefusal;
 use octets::parts::Parts;
 use std::marker::Model;
 
@@ -23,11 +28,22 @@ impl<'a> Model for Message<'a> {
 }
 
 impl<'a> Message<'a> {
-    pub(crate) fn new(lead: &'a [u8], left: &'a [u8], right: &'a [u8]) -> Message<'a>
-        requires { length lead.now + length left.now + length right.now ≤ message_limit }
-        ensures { result ≡ lead.now ++ (left.now ++ right.now) }
+    // Refused where the parts have over 4,097 bytes together.
+    pub fn of_parts(
+        lead: &'a [u8],
+        left: &'a [u8],
+        right: &'a [u8],
+    ) -> Result<Message<'a>, DigestRefusal>
+        ensures { outcome told result ≡ message_outcome lead.now left.now right.now }
     {
-        Message { lead, left, right }
+        let bytes = lead
+            .len()
+            .saturating_add(left.len())
+            .saturating_add(right.len());
+        if bytes > MESSAGE_LIMIT {
+            return Err(DigestRefusal::TooLong);
+        }
+        Ok(Message { lead, left, right })
     }
 
     // How many bytes it has.
