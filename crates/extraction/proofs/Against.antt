@@ -1,5 +1,5 @@
 -- The first witness that fails a test.
-use Rattle.std.proofs.Common.{◌≡◌, ℕ, zero, suc, ◌+◌, ◌-◌, ◌<◌, ◌≤◌, Bool, true, false, cond, List, [], ◌∷◌, map, Some, None, Option, sym, refl, ap, ◌∙◌, subst, inl, inr, arith}
+use Rattle.std.proofs.Common.{◌≡◌, ℕ, zero, suc, ◌+◌, ◌<◌, Bool, true, false, List, [], ◌∷◌, map, Some, None, Option, sym, ap, ◌∙◌, subst, inl, inr, arith}
 use Rattle.std.specs.List.{range_with_len}
 use Rattle.std.proofs.lemmas.Bool.{cond-true, cond-false, cases_Bool}
 use Rattle.wire.specs.Values.{Witness}
@@ -36,25 +36,24 @@ module _ (test : Witness → Bool) where
             (subst P same h.0, ap test (sym same) ∙ f)
       ]
 
-  -- going through the witnesses: those from i on are left
-  module _ (g : ℕ → Witness) where
-    from_there : (i m : ℕ) → first_against test (map g (range_with_len i (suc m))) ≡ cond (test (g i)) (first_against test (map g (range_with_len (i + 1) m))) (Some (g i))
+  -- going through the witnesses, of which some are left
+  module _ (ws left : List Witness) (e : first_against test ws ≡ first_against test left) where
+    pub against_later : (w : Witness) (others : List Witness) → left ≡ w ∷ others → test w ≡ true → first_against test ws ≡ first_against test others
     unfolding first_against
-    from_there i m = refl
+    against_later w others cut t = e ∙ ap (first_against test) cut ∙ cond-true (test w) _ _ t
 
-    pub against_later : (i k : ℕ) → i < k → test (g i) ≡ true → first_against test (map g (range_with_len i (k - i))) ≡ first_against test (map g (range_with_len (i + 1) (k - (i + 1))))
-    against_later i k l t =
-        let e : k - i ≡ suc (k - (i + 1)) = omega arith in
-        ap (λ m. first_against test (map g (range_with_len i m))) e ∙ from_there i (k - (i + 1)) ∙ cond-true (test (g i)) _ _ t
-
-    pub against_here : (i k : ℕ) → i < k → test (g i) ≡ false → first_against test (map g (range_with_len i (k - i))) ≡ Some (g i)
-    against_here i k l f =
-        let e : k - i ≡ suc (k - (i + 1)) = omega arith in
-        ap (λ m. first_against test (map g (range_with_len i m))) e ∙ from_there i (k - (i + 1)) ∙ cond-false (test (g i)) _ _ f
-
-    pub against_none : (i k : ℕ) → k ≤ i → first_against test (map g (range_with_len i (k - i))) ≡ None
+    pub against_here : (w : Witness) (others : List Witness) → left ≡ w ∷ others → test w ≡ false → first_against test ws ≡ Some w
     unfolding first_against
-    against_none i k l = let e : k - i ≡ 0 = omega arith in ap (λ m. first_against test (map g (range_with_len i m))) e
+    against_here w others cut f = e ∙ ap (first_against test) cut ∙ cond-false (test w) _ _ f
+
+    pub against_none : left ≡ [] → first_against test ws ≡ None
+    unfolding first_against
+    against_none none = e ∙ ap (first_against test) none
+
+-- what holds of every one holds of the first and of the others
+pub every_cut : (P : Witness → Type 0) (left others : List Witness) (w : Witness) → left ≡ w ∷ others → Every P left → P w × Every P others
+unfolding Every
+every_cut P left others w cut h = subst (Every P) cut h
 
 -- what holds of each witness by its number holds of every one
 every_upto : (P : Witness → Type 0) (g : ℕ → Witness) (a n : ℕ) → ((j : ℕ) → j < n → P (g (a + j))) → Every P (map g (range_with_len a n))

@@ -15,19 +15,13 @@ use Rattle.fraudproof.specs.Form.{Formed}
 use Rattle.fraudproof.specs.declared.proof.Proof.{Proof}
 use Rattle.fraud.specs.Accepted.{claim_rungs, witness_row, witness_col, vouches, Every}
 use Rattle.fraud.proofs.Words.{witness_share_long}
-use Rattle.extraction.specs.Extracted.{agrees, first_against, own_share, own_path, own_claim, at_witness, at_claim, at_first, extracted, Compares}
+use Rattle.extraction.specs.Extracted.{Sound, agrees, first_against, own_share, own_path, own_claim, at_witness, at_claim, at_first, extracted, Compares}
 use Rattle.extraction.proofs.Against.{none_against, against_is, every_made}
 use Rattle.extraction.proofs.Collides.{witness_ends, witness_differs, claim_ends, claim_differs}
 
 pub line_low : (h : Fields) (axis : Axis) (i : ℕ) → i < width h → line_number h axis i < line_count h
 line_low h Row i l = omega arith
 line_low h Column i l = omega arith
-
--- a witness of a proof that was read
-pub record Sound (h : Fields) (w : Witness) : Type 0 where
-  pub place : w.place < width h
-  pub share : length w.share ≡ h.s
-  pub path : length w.path ≡ path_len h
 
 witness_path_long : (h : Fields) (ws : List ℕ) → length ws ≡ h.k * witness_len h → (i : ℕ) → i < h.k → length (witness_at h ws i).path ≡ path_len h
 unfolding witness_of
@@ -36,7 +30,7 @@ witness_path_long h ws long i l =
     simp (length-take, length-drop) (omega arith)
 
 module _ (h : Fields) (p : Proof) (formed : Formed h p) where
-  all_sound : Every (Sound h) (case_of h p).witnesses
+  pub all_sound : Every (Sound h) (case_of h p).witnesses
   all_sound =
       every_made (Sound h) (witness_at h p.witnesses.now) h.k (λ i l. record {
         place = formed.places_low i l;

@@ -1,6 +1,6 @@
 -- The collision that an accepted proof and the data of a correctly extended block give: the proof's climb and the extension's own differ
 -- and end alike.
-use Rattle.std.specs.Prelude.{◌≡◌, ℕ, ◌+◌, Bool, cond, ◌&&◌, List, [], ◌∷◌, Some, None, Option, ◌==◌}
+use Rattle.std.specs.Prelude.{◌≡◌, ℕ, ◌+◌, ◌<◌, Bool, cond, ◌&&◌, List, [], ◌∷◌, length, Some, None, Option, ◌==◌}
 use Rattle.std.specs.Str.{bytes_eq}
 use Rattle.hash.specs.Digests.{digest_len}
 use Rattle.merkle.specs.Climb.{slot}
@@ -9,11 +9,12 @@ use Rattle.merkle.specs.Layout.{path_of}
 use Rattle.collisions.specs.Finding.{found_len, put_one, put_other, InHand}
 use Rattle.codes.specs.Code.{Table}
 use Rattle.header.specs.Fields.{Fields}
-use Rattle.header.specs.Sizes.{depth, data_len, square_len, string_len, line_number}
+use Rattle.header.specs.Lines.{axis_by}
+use Rattle.header.specs.Sizes.{width, depth, data_len, square_len, path_len, string_len, line_number}
 use Rattle.extension.specs.Square.{extension}
 use Rattle.commitment.specs.Values.{value_tree}
 use Rattle.commitment.specs.Roots.{roots_of, data_root_of}
-use Rattle.evidence.specs.Evidence.{axis_by, evidence_rungs}
+use Rattle.evidence.specs.Evidence.{evidence_rungs}
 use Rattle.evidence.specs.Paths.{cell_share, evidence_path}
 use Rattle.wire.specs.Values.{Claim, Witness}
 use Rattle.fraudproof.specs.Proof.{Case}
@@ -44,6 +45,12 @@ own_path f h sq c w = evidence_path f h sq (roots_of f h sq) (axis_by w.axis) (w
 -- the witness has the square's share
 abbrev pub agrees : Fields → List ℕ → Claim → Witness → Bool
 agrees h sq c w = bytes_eq w.share (own_share h sq c w)
+
+-- a witness whose place is on the line, with a share and a path of the block's lengths
+pub record Sound (h : Fields) (w : Witness) : Type 0 where
+  pub place : w.place < width h
+  pub share : length w.share ≡ h.s
+  pub path : length w.path ≡ path_len h
 
 -- the first witness that fails a test
 unfoldable pub first_against : (Witness → Bool) → List Witness → Option Witness

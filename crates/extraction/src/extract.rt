@@ -11,10 +11,11 @@ ghost use Rattle.header.specs.Fields.{fields_of};
 ghost use Rattle.header.specs.Sizes.{data_len, roots_len, square_len, string_len};
 ghost use Rattle.std.specs.Prelude.{◌≡◌, ℕ, length, Ok};
 
-use crate::compare::compare;
+use crate::comparison::Comparison;
 use crate::lengths::lengths_fit;
 use crate::rebuild::rebuild;
 use erasure::code::Code;
+use fraud::charge::Charge;
 use fraud::check::check_proof;
 use fraud::refusal::FraudRefusal;
 use fraudproof::read::read_proof;
@@ -25,23 +26,29 @@ use header::header::Header;
 const ROOTS_ROOM: usize = 4096;
 
 // Reads an accepted proof once more and compares it with the square.
-fn extract_from<H: Hash>(
-    h: &Header,
-    square: &[u8],
-    roots: &[u8],
-    bytes: &[u8],
+fn extract_from<'x, H: Hash>(
+    h: &'x Header,
+    square: &'x [u8],
+    roots: &'x [u8],
+    bytes: &'x [u8],
     string_a: &mut [u8],
     string_b: &mut [u8],
 ) -> Option<usize>
     requires kinds { h.now.hash_kind ≡ H.kind }
     requires block { (length square.now ≡ square_len (fields_of h.now)) × ((roots.now ≡ roots_of H.meaning (fields_of h.now) square.now) × (length roots.now ≡ roots_len (fields_of h.now))) }
-    requires room { (length string_a.old ≡ string_len) × (length string_b.old ≡ string_len) }
+    requires strings { (length string_a.old ≡ string_len) × (length string_b.old ≡ string_len) }
     ensures { (p : Case) → case_outcome (fields_of h.now) bytes.now ≡ Ok p → Compares H.meaning (fields_of h.now) square.now p result string_a.old string_b.old string_a.new string_b.new }
 {
-    match read_proof(h, bytes) {
-        Ok(p) => compare::<H>(h, square, roots, &p, string_a, string_b),
-        Err(_) => None,
-    }
+    let charge = Charge {
+        header: h,
+        proof: read_proof(h, bytes).ok()?,
+    };
+    let comparison = Comparison {
+        charge,
+        square,
+        roots,
+    };
+    comparison.compare::<H>(string_a, string_b)
 }
 
 // Extends the data to `square` and `roots`, checks the proof and compares.
@@ -65,11 +72,10 @@ fn extract_with<H: Hash, C: Code>(
     if !rebuild::<H, C>(h, shares, square, roots) {
         return Err(FraudRefusal::OtherData);
     }
-    if let Err(e) = check_proof::<H, C>(h, bytes) {
-        return Err(e);
-    }
+    check_proof::<H, C>(h, bytes)?;
     match extract_from::<H>(h, square, roots, bytes, string_a, string_b) {
         Some(n) => Ok(n),
+        // An accepted proof against the header of these data always gives a collision.
         None => unreachable(),
     }
 }

@@ -4,6 +4,7 @@
 mod at_claim;
 mod at_witness;
 mod compare;
+mod comparison;
 pub mod extract;
 mod lengths;
 mod rebuild;

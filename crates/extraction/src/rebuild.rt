@@ -14,7 +14,6 @@ use extension::fill::fill;
 use hash::digest::Hash;
 use hash::limits::DIGEST_LEN;
 use header::header::Header;
-use octets::compare::same;
 
 // Whether the data root over some roots is the header's.
 fn is_header_of<H: Hash>(h: &Header, roots: &[u8]) -> bool
@@ -22,10 +21,7 @@ fn is_header_of<H: Hash>(h: &Header, roots: &[u8]) -> bool
     ensures { result ≡ bytes_eq (data_root_of H.meaning (fields_of h.now) roots.now) h.now.data_root }
 {
     let depth = h.lengths().depth;
-    match value_root::<H>(roots, DIGEST_LEN, depth + 1) {
-        Some(top) => same(&top, &h.data_root),
-        None => unreachable(),
-    }
+    value_root::<H>(roots, DIGEST_LEN, depth + 1) == Some(h.data_root)
 }
 
 // Extends the data to the square, writes its roots, and answers whether the header is theirs.
@@ -42,6 +38,6 @@ pub(crate) fn rebuild<H: Hash, C: Code>(
     ensures answer { result ≡ is_header_of H.Hash.meaning (fields_of h.now) (square_of C.Code.table (fields_of h.now) shares.now) }
 {
     let _ = fill::<C>(h.k as usize, h.s as usize, shares, square);
-    square_roots::<H>(h, square, roots);
+    let _ = square_roots::<H>(h, square, roots);
     is_header_of::<H>(h, roots)
 }

@@ -24,7 +24,7 @@ pub unreachable-requires : goal.unreachable-requires
 unreachable-requires g c =
     let h = fields_of c.args.h.now in
     let T = g.C.Code.table in
-    let accepted = c.in_default.ensures.accepts.sound refl in
+    let accepted = c.in_ok-check_proof.ensures.accepts.sound refl in
     always_found g.H.Hash.meaning T h c.args.shares.now (square_of T h c.args.shares.now) c.rebuild.new.square accepted.proof _ _ _ _
     c.rebuild.ensures.square c.rebuild.ensures.stands (sym c.if-not-rebuild.ensures.answer) accepted.condemns
     (c.in-None.ensures accepted.proof accepted.read)
