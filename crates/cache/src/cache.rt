@@ -30,10 +30,10 @@ pub struct Cache<H, S> {
 
 // Whether the header has the k and the share size of the store below, and the kind of the hash.
 fn header_fits<H: Hash, S: Store>(h: &Header, below: &S) -> bool
-    ensures { result ≡ header_fits H.Hash.kind (fields_of h.now) (S.Store.meaning below.now) }
+    ensures { result ≡ header_fits H.Hash.KIND (fields_of h.now) (S.Store.meaning below.now) }
 {
     h.k as usize == below.half_width()
-        && (h.s as usize == below.share_size() && h.hash_kind == H::kind_byte())
+        && (h.s as usize == below.share_size() && h.hash_kind == H::KIND)
 }
 
 // Asks the store below for a cell, with room of its own for a share and a path of these lengths. Gives the answer to be kept.
@@ -46,7 +46,7 @@ fn ask_below<H: Hash, S: Store>(
 ) -> Option<Kept>
     requires room { (share_len ≤ 512) × (path_len ≤ 416) }
     requires free { asked (S.Store.meaning below.old).k (S.Store.meaning below.old).s cell.row cell.col share_len path_len ≡ Ok tt }
-    ensures { S.Store.ordered below.old → Brings H.Hash.meaning H.Hash.kind (fields_of h.now) (S.Store.meaning below.old) (S.Store.meaning below.new) (S.Store.ordered below.new) cell.row cell.col result }
+    ensures { S.Store.ordered below.old → Brings H.Hash.meaning H.Hash.KIND (fields_of h.now) (S.Store.meaning below.old) (S.Store.meaning below.new) (S.Store.ordered below.new) cell.row cell.col result }
 {
     let fits = header_fits::<H, S>(h, below);
     let mut share = [0u8; SHARE_ROOM];
@@ -74,7 +74,7 @@ impl<H: Hash, S: Store> Cache<H, S> {
         ensures header { result.header ≡ header }
         ensures empty { places (S.Store.meaning below).k (S.Store.meaning below).s result.kept ≡ replicate 8 None }
         ensures none { result.count ≡ 0 }
-        ensures order { S.Store.ordered below → CacheOrder (S.Store.ordered result.below) (checked H.Hash.meaning H.Hash.kind (fields_of result.header) (S.Store.meaning result.below)) (places (S.Store.meaning result.below).k (S.Store.meaning result.below).s result.kept) }
+        ensures order { S.Store.ordered below → CacheOrder (S.Store.ordered result.below) (checked H.Hash.meaning H.Hash.KIND (fields_of result.header) (S.Store.meaning result.below)) (places (S.Store.meaning result.below).k (S.Store.meaning result.below).s result.kept) }
     {
         Cache {
             below,
@@ -94,9 +94,9 @@ impl<H: Hash, S: Store> Cache<H, S> {
 }
 
 impl<H: Hash, S: Store> Store for Cache<H, S> {
-    ghost meaning = { λ c. checked H.Hash.meaning H.Hash.kind (fields_of c.header) (S.Store.meaning c.below) };
+    ghost meaning = { λ c. checked H.Hash.meaning H.Hash.KIND (fields_of c.header) (S.Store.meaning c.below) };
 
-    ghost ordered = { λ c. CacheOrder (S.Store.ordered c.below) (checked H.Hash.meaning H.Hash.kind (fields_of c.header) (S.Store.meaning c.below)) (places (S.Store.meaning c.below).k (S.Store.meaning c.below).s c.kept) };
+    ghost ordered = { λ c. CacheOrder (S.Store.ordered c.below) (checked H.Hash.meaning H.Hash.KIND (fields_of c.header) (S.Store.meaning c.below)) (places (S.Store.meaning c.below).k (S.Store.meaning c.below).s c.kept) };
 
     ghost bounded = { λ c. S.Store.bounded c.below };
 
@@ -116,10 +116,10 @@ impl<H: Hash, S: Store> Store for Cache<H, S> {
         share: &mut [u8],
         path: &mut [u8],
     ) -> Result<Option<Axis>, StoreRefusal>
-        ensures shown { CacheOrder (S.Store.ordered self.old.below) (checked H.Hash.meaning H.Hash.kind (fields_of self.old.header) (S.Store.meaning self.old.below)) (places (S.Store.meaning self.old.below).k (S.Store.meaning self.old.below).s self.old.kept) → Shows (checked H.Hash.meaning H.Hash.kind (fields_of self.old.header) (S.Store.meaning self.old.below)) (checked H.Hash.meaning H.Hash.kind (fields_of self.new.header) (S.Store.meaning self.new.below)) (CacheOrder (S.Store.ordered self.new.below) (checked H.Hash.meaning H.Hash.kind (fields_of self.new.header) (S.Store.meaning self.new.below)) (places (S.Store.meaning self.new.below).k (S.Store.meaning self.new.below).s self.new.kept)) cell.row cell.col share.old path.old (outcome told result) share.new path.new }
+        ensures shown { CacheOrder (S.Store.ordered self.old.below) (checked H.Hash.meaning H.Hash.KIND (fields_of self.old.header) (S.Store.meaning self.old.below)) (places (S.Store.meaning self.old.below).k (S.Store.meaning self.old.below).s self.old.kept) → Shows (checked H.Hash.meaning H.Hash.KIND (fields_of self.old.header) (S.Store.meaning self.old.below)) (checked H.Hash.meaning H.Hash.KIND (fields_of self.new.header) (S.Store.meaning self.new.below)) (CacheOrder (S.Store.ordered self.new.below) (checked H.Hash.meaning H.Hash.KIND (fields_of self.new.header) (S.Store.meaning self.new.below)) (places (S.Store.meaning self.new.below).k (S.Store.meaning self.new.below).s self.new.kept)) cell.row cell.col share.old path.old (outcome told result) share.new path.new }
         ensures refused { Untouched (asked (S.Store.meaning self.old.below).k (S.Store.meaning self.old.below).s cell.row cell.col (length share.old) (length path.old)) self.old self.new }
         ensures counted { self.new.count ≡ count_after (asked (S.Store.meaning self.old.below).k (S.Store.meaning self.old.below).s cell.row cell.col (length share.old) (length path.old)) (kept_for cell.row cell.col (places (S.Store.meaning self.old.below).k (S.Store.meaning self.old.below).s self.old.kept)) self.old.count }
-        ensures kept { CacheOrder (S.Store.ordered self.old.below) (checked H.Hash.meaning H.Hash.kind (fields_of self.old.header) (S.Store.meaning self.old.below)) (places (S.Store.meaning self.old.below).k (S.Store.meaning self.old.below).s self.old.kept) → places (S.Store.meaning self.old.below).k (S.Store.meaning self.old.below).s self.new.kept ≡ kept_after (asked (S.Store.meaning self.old.below).k (S.Store.meaning self.old.below).s cell.row cell.col (length share.old) (length path.old)) (kept_for cell.row cell.col (places (S.Store.meaning self.old.below).k (S.Store.meaning self.old.below).s self.old.kept)) cell.row cell.col ((checked H.Hash.meaning H.Hash.kind (fields_of self.old.header) (S.Store.meaning self.old.below)).at cell.row cell.col) (places (S.Store.meaning self.old.below).k (S.Store.meaning self.old.below).s self.old.kept) }
+        ensures kept { CacheOrder (S.Store.ordered self.old.below) (checked H.Hash.meaning H.Hash.KIND (fields_of self.old.header) (S.Store.meaning self.old.below)) (places (S.Store.meaning self.old.below).k (S.Store.meaning self.old.below).s self.old.kept) → places (S.Store.meaning self.old.below).k (S.Store.meaning self.old.below).s self.new.kept ≡ kept_after (asked (S.Store.meaning self.old.below).k (S.Store.meaning self.old.below).s cell.row cell.col (length share.old) (length path.old)) (kept_for cell.row cell.col (places (S.Store.meaning self.old.below).k (S.Store.meaning self.old.below).s self.old.kept)) cell.row cell.col ((checked H.Hash.meaning H.Hash.KIND (fields_of self.old.header) (S.Store.meaning self.old.below)).at cell.row cell.col) (places (S.Store.meaning self.old.below).k (S.Store.meaning self.old.below).s self.old.kept) }
         ensures unasked { Unasked (kept_for cell.row cell.col (places (S.Store.meaning self.old.below).k (S.Store.meaning self.old.below).s self.old.kept)) self.old self.new }
     {
         self.admit(cell, share, path)?;

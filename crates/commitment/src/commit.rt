@@ -23,10 +23,10 @@ pub fn commit<H: Hash, C: Code>(
     square: &[u8],
     roots: &mut [u8],
 ) -> Result<Header, SquareRefusal>
-    ensures answer { outcome_by fields_of told result ≡ commit_outcome H.Hash.meaning (blank k s H.Hash.kind C.Code.kind) square.now (length roots.old) }
-    ensures written { roots.new ≡ written (commit_outcome H.Hash.meaning (blank k s H.Hash.kind C.Code.kind) square.now (length roots.old)) (roots_of H.Hash.meaning (blank k s H.Hash.kind C.Code.kind) square.now) roots.old }
+    ensures answer { outcome_by fields_of told result ≡ commit_outcome H.Hash.meaning (blank k s H.Hash.KIND C.Code.KIND) square.now (length roots.old) }
+    ensures written { roots.new ≡ written (commit_outcome H.Hash.meaning (blank k s H.Hash.KIND C.Code.KIND) square.now (length roots.old)) (roots_of H.Hash.meaning (blank k s H.Hash.KIND C.Code.KIND) square.now) roots.old }
 {
-    let mut h = make_header(k, s, H::kind_byte(), C::kind_byte(), &[0u8; DIGEST_LEN])?;
+    let mut h = make_header(k, s, H::KIND, C::KIND, &[0u8; DIGEST_LEN])?;
     let cells = Cells::of(&h, square)?;
     cells.roots::<H>(roots)?;
     let leaves = Run {

@@ -6,19 +6,16 @@ ghost use Rattle.erasure.specs.Weights.{weighed};
 
 // A code is its table: for each k, 2k rows of k bytes. All else is said by it.
 pub trait Code {
+    // The byte that names this code in a header; a clause names it by the member beside it.
     const KIND: u8;
 
-    // The kind once more, for contracts, which cannot name a constant.
-    ghost kind: { ℕ };
+    ghost KIND: { ℕ };
 
     ghost table: { Table };
 
     // The weights of k given shares in each symbol. They only name the codeword through the shares, of which there is one by the
     // second law; so they narrow nothing.
     ghost weight: { Weight };
-
-    fn kind_byte() -> u8
-        ensures { result ≡ kind };
 
     // Writes the weights of the shares at these places, a row for each symbol. If the places have none, or the rows do not fit, nothing is written.
     fn weights(places: &[u16], rows: &mut [u8])

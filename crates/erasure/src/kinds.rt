@@ -25,7 +25,7 @@ impl Scaled for Polynomial {
 impl Code for Polynomial {
     const KIND: u8 = 1;
 
-    ghost kind = { 1 };
+    ghost KIND = { 1 };
 
     ghost table = { polynomial };
 
@@ -36,10 +36,6 @@ impl Code for Polynomial {
     ghost second = { ProofsPolynomial.second_law };
 
     ghost weighs = { ProofsPolynomial.weight_law };
-
-    fn kind_byte() -> u8 {
-        Self::KIND
-    }
 
     fn weights(places: &[u16], rows: &mut [u8]) {
         weigh::<Polynomial>(places, rows);
@@ -70,7 +66,7 @@ impl Scaled for Cauchy {
 impl Code for Cauchy {
     const KIND: u8 = 2;
 
-    ghost kind = { 2 };
+    ghost KIND = { 2 };
 
     ghost table = { cauchy };
 
@@ -81,10 +77,6 @@ impl Code for Cauchy {
     ghost second = { ProofsCauchy.second_law };
 
     ghost weighs = { ProofsCauchy.weight_law };
-
-    fn kind_byte() -> u8 {
-        Self::KIND
-    }
 
     fn weights(places: &[u16], rows: &mut [u8]) {
         weigh::<Cauchy>(places, rows);

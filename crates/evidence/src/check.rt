@@ -55,9 +55,9 @@ pub fn check_share<H: Hash>(
     share: &[u8],
     path: &[u8],
 ) -> Result<(), SquareRefusal>
-    ensures { outcome told result ≡ check_outcome H.meaning H.kind (fields_of h.now) cell.row cell.col axis share.now path.now }
+    ensures { outcome told result ≡ check_outcome H.meaning H.KIND (fields_of h.now) cell.row cell.col axis share.now path.now }
 {
-    if h.hash_kind != H::kind_byte() {
+    if h.hash_kind != H::KIND {
         return Err(SquareRefusal::OtherHash);
     }
     if !h.has_cell(cell) {

@@ -75,11 +75,11 @@ pub fn evidence_of<H: Hash>(
     axis: Axis,
     path: &mut [u8],
 ) -> Result<(), SquareRefusal>
-    ensures answer { outcome told result ≡ evidence_outcome H.kind (fields_of h.now) cell.row cell.col (length square.now) (length roots.now) (length path.old) }
-    ensures written { path.new ≡ written (evidence_outcome H.kind (fields_of h.now) cell.row cell.col (length square.now) (length roots.now) (length path.old)) (evidence_path H.meaning (fields_of h.now) square.now roots.now axis cell.row cell.col) path.old }
-    ensures proves { evidence_outcome H.kind (fields_of h.now) cell.row cell.col (length square.now) (length roots.now) (length path.old) ≡ Ok tt → Proves H.meaning (fields_of h.now) square.now roots.now axis cell.row cell.col path.new }
+    ensures answer { outcome told result ≡ evidence_outcome H.KIND (fields_of h.now) cell.row cell.col (length square.now) (length roots.now) (length path.old) }
+    ensures written { path.new ≡ written (evidence_outcome H.KIND (fields_of h.now) cell.row cell.col (length square.now) (length roots.now) (length path.old)) (evidence_path H.meaning (fields_of h.now) square.now roots.now axis cell.row cell.col) path.old }
+    ensures proves { evidence_outcome H.KIND (fields_of h.now) cell.row cell.col (length square.now) (length roots.now) (length path.old) ≡ Ok tt → Proves H.meaning (fields_of h.now) square.now roots.now axis cell.row cell.col path.new }
 {
-    if h.hash_kind != H::kind_byte() {
+    if h.hash_kind != H::KIND {
         return Err(SquareRefusal::OtherHash);
     }
     if !h.has_cell(cell) {

@@ -33,7 +33,7 @@ impl Comparison<'_> {
         string_a: &mut [u8],
         string_b: &mut [u8],
     ) -> Option<usize>
-        requires kinds { self.now.charge.header.now.hash_kind ≡ H.kind }
+        requires kinds { self.now.charge.header.now.hash_kind ≡ H.KIND }
         requires cell { (cell.row < width (block_of self.now.charge)) × (cell.col < width (block_of self.now.charge)) }
         requires paths { (length shown.value.now ≡ self.now.charge.header.now.s) × ((length shown.path.now ≡ path_len (block_of self.now.charge)) × (length own.old ≡ path_len (block_of self.now.charge))) }
         requires strings { (length string_a.old ≡ string_len) × (length string_b.old ≡ string_len) }
@@ -65,7 +65,7 @@ impl Comparison<'_> {
         string_a: &mut [u8],
         string_b: &mut [u8],
     ) -> Option<usize>
-        requires kinds { self.now.charge.header.now.hash_kind ≡ H.kind }
+        requires kinds { self.now.charge.header.now.hash_kind ≡ H.KIND }
         requires sound { Sound (block_of self.now.charge) (values_of w.now) }
         requires strings { (length string_a.old ≡ string_len) × (length string_b.old ≡ string_len) }
         ensures { let row = witness_row (case_in self.now.charge).claim (values_of w.now) in let col = witness_col (case_in self.now.charge).claim (values_of w.now) in Finds H.meaning (evidence_rungs (block_of self.now.charge) (axis_by w.now.axis) row col w.now.path.now) (evidence_rungs (block_of self.now.charge) (axis_by w.now.axis) row col (evidence_path H.meaning (block_of self.now.charge) self.now.square.now self.now.roots.now (axis_by w.now.axis) row col)) w.now.share.now (own_share (block_of self.now.charge) self.now.square.now (case_in self.now.charge).claim (values_of w.now)) result string_a.old string_b.old string_a.new string_b.new }

@@ -34,7 +34,7 @@ fn extract_from<'x, H: Hash>(
     string_a: &mut [u8],
     string_b: &mut [u8],
 ) -> Option<usize>
-    requires kinds { h.now.hash_kind ≡ H.kind }
+    requires kinds { h.now.hash_kind ≡ H.KIND }
     requires block { (length square.now ≡ square_len (fields_of h.now)) × ((roots.now ≡ roots_of H.meaning (fields_of h.now) square.now) × (length roots.now ≡ roots_len (fields_of h.now))) }
     requires strings { (length string_a.old ≡ string_len) × (length string_b.old ≡ string_len) }
     ensures { (p : Case) → case_outcome (fields_of h.now) bytes.now ≡ Ok p → Compares H.meaning (fields_of h.now) square.now p result string_a.old string_b.old string_a.new string_b.new }
@@ -61,13 +61,13 @@ fn extract_with<H: Hash, C: Code>(
     string_a: &mut [u8],
     string_b: &mut [u8],
 ) -> Result<usize, FraudRefusal>
-    requires kinds { (h.now.hash_kind ≡ H.Hash.kind) × (h.now.code_kind ≡ C.Code.kind) }
+    requires kinds { (h.now.hash_kind ≡ H.Hash.KIND) × (h.now.code_kind ≡ C.Code.KIND) }
     requires block { (length shares.now ≡ data_len (fields_of h.now)) × ((length square.old ≡ square_len (fields_of h.now)) × (length roots.old ≡ roots_len (fields_of h.now))) }
     requires room { (length string_a.old ≡ string_len) × (length string_b.old ≡ string_len) }
     ensures answer { outcome told result ≡ extracted_from H.Hash.meaning C.Code.weight (fields_of h.now) (square_of C.Code.table (fields_of h.now) shares.now) bytes.now }
     ensures writes { Writes H.Hash.meaning (fields_of h.now) (square_of C.Code.table (fields_of h.now) shares.now) bytes.now (outcome told result) string_a.old string_b.old string_a.new string_b.new }
     ensures collision { AlwaysInHand H.Hash.meaning (outcome told result) string_a.new string_b.new }
-    ensures gives { (fields_of h.now).data_root ≡ data_root_of H.Hash.meaning (fields_of h.now) (roots_of H.Hash.meaning (fields_of h.now) (square_of C.Code.table (fields_of h.now) shares.now)) → Accepted H.Hash.meaning C.Code.table H.Hash.kind C.Code.kind (fields_of h.now) bytes.now → (n : ℕ) × (outcome told result ≡ Ok n) }
+    ensures gives { (fields_of h.now).data_root ≡ data_root_of H.Hash.meaning (fields_of h.now) (roots_of H.Hash.meaning (fields_of h.now) (square_of C.Code.table (fields_of h.now) shares.now)) → Accepted H.Hash.meaning C.Code.table H.Hash.KIND C.Code.KIND (fields_of h.now) bytes.now → (n : ℕ) × (outcome told result ≡ Ok n) }
 {
     if !rebuild::<H, C>(h, shares, square, roots) {
         return Err(FraudRefusal::OtherData);
@@ -90,15 +90,15 @@ pub fn extract<H: Hash, C: Code>(
     string_b: &mut [u8],
     scratch: &mut [u8],
 ) -> Result<usize, FraudRefusal>
-    ensures answer { outcome told result ≡ extract_outcome H.Hash.meaning C.Code.weight C.Code.table H.Hash.kind C.Code.kind (fields_of h.now) shares.now bytes.now (length string_a.old) (length string_b.old) (length scratch.old) }
+    ensures answer { outcome told result ≡ extract_outcome H.Hash.meaning C.Code.weight C.Code.table H.Hash.KIND C.Code.KIND (fields_of h.now) shares.now bytes.now (length string_a.old) (length string_b.old) (length scratch.old) }
     ensures writes { Writes H.Hash.meaning (fields_of h.now) (square_of C.Code.table (fields_of h.now) shares.now) bytes.now (outcome told result) string_a.old string_b.old string_a.new string_b.new }
     ensures collision { AlwaysInHand H.Hash.meaning (outcome told result) string_a.new string_b.new }
-    ensures gives { AlwaysGives H.Hash.meaning C.Code.table H.Hash.kind C.Code.kind (fields_of h.now) shares.now bytes.now (length string_a.old) (length string_b.old) (length scratch.old) (outcome told result) string_a.new string_b.new }
+    ensures gives { AlwaysGives H.Hash.meaning C.Code.table H.Hash.KIND C.Code.KIND (fields_of h.now) shares.now bytes.now (length string_a.old) (length string_b.old) (length scratch.old) (outcome told result) string_a.new string_b.new }
 {
-    if h.hash_kind != H::kind_byte() {
+    if h.hash_kind != H::KIND {
         return Err(FraudRefusal::OtherHash);
     }
-    if h.code_kind != C::kind_byte() {
+    if h.code_kind != C::KIND {
         return Err(FraudRefusal::OtherCode);
     }
     if !lengths_fit(

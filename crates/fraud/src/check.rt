@@ -14,13 +14,13 @@ use header::header::Header;
 
 // Checks a proof that the block of a header is badly encoded: it is accepted where nothing is refused.
 pub fn check_proof<H: Hash, C: Code>(h: &Header, bytes: &[u8]) -> Result<(), FraudRefusal>
-    ensures answer { outcome told result ≡ check_outcome H.Hash.meaning C.Code.weight H.Hash.kind C.Code.kind (fields_of h.now) bytes.now }
-    ensures accepts { Accepts H.Hash.meaning C.Code.table H.Hash.kind C.Code.kind (fields_of h.now) bytes.now (outcome told result) }
+    ensures answer { outcome told result ≡ check_outcome H.Hash.meaning C.Code.weight H.Hash.KIND C.Code.KIND (fields_of h.now) bytes.now }
+    ensures accepts { Accepts H.Hash.meaning C.Code.table H.Hash.KIND C.Code.KIND (fields_of h.now) bytes.now (outcome told result) }
 {
-    if h.hash_kind != H::kind_byte() {
+    if h.hash_kind != H::KIND {
         return Err(FraudRefusal::OtherHash);
     }
-    if h.code_kind != C::kind_byte() {
+    if h.code_kind != C::KIND {
         return Err(FraudRefusal::OtherCode);
     }
     let charge = Charge {

@@ -14,12 +14,6 @@ pub trait Hash {
 
     ghost KIND: { ℕ };
 
-    // The same, by the names that the layers above use.
-    ghost kind: { ℕ };
-
-    fn kind_byte() -> u8
-        ensures { result ≡ kind };
-
     // What the hash is: a function from byte strings to digests.
     ghost meaning: { List ℕ → List ℕ };
 

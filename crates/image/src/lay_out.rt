@@ -58,10 +58,10 @@ pub fn lay_out_image<H: Hash>(
     square: &[u8],
     image: &mut [u8],
 ) -> Result<(), SquareRefusal>
-    ensures answer { outcome told result ≡ image_outcome H.kind (fields_of h.now) (length square.now) (length image.old) }
-    ensures laid { image.new ≡ written (image_outcome H.kind (fields_of h.now) (length square.now) (length image.old)) (image_of H.meaning (fields_of h.now) square.now) image.old }
+    ensures answer { outcome told result ≡ image_outcome H.KIND (fields_of h.now) (length square.now) (length image.old) }
+    ensures laid { image.new ≡ written (image_outcome H.KIND (fields_of h.now) (length square.now) (length image.old)) (image_of H.meaning (fields_of h.now) square.now) image.old }
 {
-    if h.hash_kind != H::kind_byte() {
+    if h.hash_kind != H::KIND {
         return Err(SquareRefusal::OtherHash);
     }
     let cells = Cells::of(h, square)?;

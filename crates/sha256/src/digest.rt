@@ -17,12 +17,6 @@ impl Hash for Sha256 {
 
     ghost KIND = { 1 };
 
-    ghost kind = { 1 };
-
-    fn kind_byte() -> u8 {
-        Self::KIND
-    }
-
     ghost meaning = { sha256 };
 
     ghost sized = { sha256_sized };

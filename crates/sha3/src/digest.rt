@@ -17,12 +17,6 @@ impl Hash for Sha3 {
 
     ghost KIND = { 2 };
 
-    ghost kind = { 2 };
-
-    fn kind_byte() -> u8 {
-        Self::KIND
-    }
-
     ghost meaning = { sha3 };
 
     ghost sized = { sha3_sized };

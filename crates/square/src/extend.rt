@@ -27,12 +27,12 @@ pub fn extend<H: Hash, C: Code>(
     square: &mut [u8],
     roots: &mut [u8],
 ) -> Result<Header, SquareRefusal>
-    ensures answer { outcome_by fields_of told result ≡ extend_outcome H.Hash.meaning C.Code.table (blank k s H.Hash.kind C.Code.kind) shares.now (length square.old) (length roots.old) }
-    ensures square { square.new ≡ written (extend_outcome H.Hash.meaning C.Code.table (blank k s H.Hash.kind C.Code.kind) shares.now (length square.old) (length roots.old)) (extension C.Code.table k s shares.now) square.old }
-    ensures roots { roots.new ≡ written (extend_outcome H.Hash.meaning C.Code.table (blank k s H.Hash.kind C.Code.kind) shares.now (length square.old) (length roots.old)) (roots_of H.Hash.meaning (blank k s H.Hash.kind C.Code.kind) (extension C.Code.table k s shares.now)) roots.old }
-    ensures stands { ExtendStands H.Hash.meaning C.Code.table (blank k s H.Hash.kind C.Code.kind) shares.now }
+    ensures answer { outcome_by fields_of told result ≡ extend_outcome H.Hash.meaning C.Code.table (blank k s H.Hash.KIND C.Code.KIND) shares.now (length square.old) (length roots.old) }
+    ensures square { square.new ≡ written (extend_outcome H.Hash.meaning C.Code.table (blank k s H.Hash.KIND C.Code.KIND) shares.now (length square.old) (length roots.old)) (extension C.Code.table k s shares.now) square.old }
+    ensures roots { roots.new ≡ written (extend_outcome H.Hash.meaning C.Code.table (blank k s H.Hash.KIND C.Code.KIND) shares.now (length square.old) (length roots.old)) (roots_of H.Hash.meaning (blank k s H.Hash.KIND C.Code.KIND) (extension C.Code.table k s shares.now)) roots.old }
+    ensures stands { ExtendStands H.Hash.meaning C.Code.table (blank k s H.Hash.KIND C.Code.KIND) shares.now }
 {
-    let h = make_header(k, s, H::kind_byte(), C::kind_byte(), &[0u8; DIGEST_LEN])?;
+    let h = make_header(k, s, H::KIND, C::KIND, &[0u8; DIGEST_LEN])?;
     let n = h.lengths();
     if shares.len() != n.data || square.len() != n.square || roots.len() != n.roots {
         return Err(SquareRefusal::WrongLength);

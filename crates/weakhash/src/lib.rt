@@ -28,12 +28,6 @@ impl Hash for Weak {
 
     ghost KIND = { 200 };
 
-    ghost kind = { 200 };
-
-    fn kind_byte() -> u8 {
-        Self::KIND
-    }
-
     ghost meaning = { weak };
 
     ghost sized = { λ m. few_sized (Message.sha256 m) };

@@ -14,24 +14,24 @@ use Rattle.square.proofs.extend.extend.Goals as goal
 
 pub returns-in_err-h-clause-stands : goal.returns-in_err-h-clause-stands
 returns-in_err-h-clause-stands g c w z l =
-    let b = blank c.args.k c.args.s g.H.Hash.kind g.C.Code.kind in
+    let b = blank c.args.k c.args.s g.H.Hash.KIND g.C.Code.KIND in
     stand g.H.Hash.meaning g.met.H.Hash.sized b w g.C.Code.table g.met.C.Code.first g.met.C.Code.second c.args.shares.now (λ n. omega (arith, c.type_inv.shares n)) z l
 
 pub returns-then-shares-n-clause-stands : goal.returns-then-shares-n-clause-stands
 returns-then-shares-n-clause-stands g c w z l =
-    let b = blank c.args.k c.args.s g.H.Hash.kind g.C.Code.kind in
+    let b = blank c.args.k c.args.s g.H.Hash.KIND g.C.Code.KIND in
     stand g.H.Hash.meaning g.met.H.Hash.sized b w g.C.Code.table g.met.C.Code.first g.met.C.Code.second c.args.shares.now (λ n. omega (arith, c.type_inv.shares n)) z l
 
 pub returns : goal.returns
 returns g c =
     let f = g.H.Hash.meaning in
     let T = g.C.Code.table in
-    let b = blank c.args.k c.args.s g.H.Hash.kind g.C.Code.kind in
+    let b = blank c.args.k c.args.s g.H.Hash.KIND g.C.Code.KIND in
     let d = c.args.shares.now in
     let n = length c.args.square.now in
     let m = length c.args.roots.now in
     let ext = extension T c.args.k c.args.s d in
-    let h = made (record { k = c.args.k; s = c.args.s; hash_kind = c.kind_byte.result; code_kind = c.kind_byte-2.result; data_root = replicate 32 0 }) (fields_of c.in_ok-h.h) c.in_ok-h.ensures in
+    let h = made (record { k = c.args.k; s = c.args.s; hash_kind = c.KIND.result; code_kind = c.KIND-2.result; data_root = replicate 32 0 }) (fields_of c.in_ok-h.h) c.in_ok-h.ensures in
     let of = fields_of c.in_ok-h.h in
     let e = c.lengths-n.ensures in
     let measured : extend_fits of (length d) n m ≡ true =

@@ -47,7 +47,7 @@ returns-in-Some g c =
     let a = c.args in
     let m : Meaning = g.S.Store.meaning a.self.now.below in
     let h : Fields = fields_of a.self.now.header in
-    let all : Meaning = checked g.H.Hash.meaning g.H.Hash.kind h m in
+    let all : Meaning = checked g.H.Hash.meaning g.H.Hash.KIND h m in
     let r = a.cell.row in
     let col = a.cell.col in
     let v = c.in-Some.v in
@@ -70,7 +70,7 @@ pub returns-in_default-brought : goal.returns-in_default-brought
 returns-in_default-brought g c =
     let a = c.args in
     let f = g.H.Hash.meaning in
-    let kind = g.H.Hash.kind in
+    let kind = g.H.Hash.KIND in
     let m : Meaning = g.S.Store.meaning a.self.now.below in
     let m' : Meaning = g.S.Store.meaning c.ask_below-brought.new.below in
     let h : Fields = fields_of a.self.now.header in
@@ -96,7 +96,7 @@ pub returns : goal.returns
 returns g c =
     let a = c.args in
     let f = g.H.Hash.meaning in
-    let kind = g.H.Hash.kind in
+    let kind = g.H.Hash.KIND in
     let m : Meaning = g.S.Store.meaning a.self.now.below in
     let m' : Meaning = g.S.Store.meaning c.ask_below-brought.new.below in
     let h : Fields = fields_of a.self.now.header in

@@ -28,7 +28,7 @@ returns g c =
     let own : c.evidence_of.new.path ≡ evidence_path f x sq roots axis r col =
     c.evidence_of.ensures.written
     ∙ ap (λ o. written o (evidence_path f x sq roots axis r col) c.args.own.now)
-    (evidence_granted g.H.Hash.kind x r col (length sq) (length roots) (length c.args.own.now) c.requires.kinds cell.0 cell.1 s.squared s.rooted p.1.1) in
+    (evidence_granted g.H.Hash.KIND x r col (length sq) (length roots) (length c.args.own.now) c.requires.kinds cell.0 cell.1 s.squared s.rooted p.1.1) in
     let long : length c.evidence_of.new.path ≡ path_len x = c.evidence_of.auto.path ∙ p.1.1 in
     let size : length c.cell_share.result.now ≡ h.s =
     ap length c.cell_share.ensures ∙ share_length h.s (cell_number x r col) (width x * width x) sq s.squared (cell_below (width x) (width x) r col cell.0 cell.1) in
