@@ -9,7 +9,6 @@ use Rattle.header.specs.Fields.{Fields}
 use Rattle.header.specs.Lines.{line_of, place_on}
 use Rattle.header.specs.Sizes.{depth, path_len, line_number}
 use Rattle.evidence.specs.Evidence.{evidence_rungs}
-use Rattle.evidence.specs.Paths.{cell_share, evidence_path}
 
 -- lengths that fit
 pub strings_fit_lem : (v w p q x y : ℕ) → Fitting v w p q x y → strings_fit v w p q x y ≡ true
@@ -74,14 +73,3 @@ finds_claim f n p p' v w w' path own own' o x y x' y' long long' at e same finds
     subst (λ rs. Finds f rs (from_leaf n p' own') v w' o x y x' y') (ap (λ m. from_leaf m p path) a ∙ ap (λ q. from_leaf n q path) at)
     (subst (λ qs. Finds f (from_leaf (levels path) p path) qs v w' o x y x' y') (ap (λ m. from_leaf m p own) b ∙ ap (λ q. from_leaf n q own) at ∙ ap (from_leaf n p') same)
     (subst (λ u. Finds f (from_leaf (levels path) p path) (from_leaf (levels own) p own) v u o x y x' y') e finds))
-
--- the same search, its cell, its axis and its roots said otherwise
-pub finds_at : (f : List ℕ → List ℕ) (h : Fields) (sq roots roots' : List ℕ) (axis axis' : Axis) (r r' c c' : ℕ) (v path : List ℕ) (o : Option ℕ) (x y x' y' : List ℕ)
-    → roots ≡ roots' → axis ≡ axis' → r ≡ r' → c ≡ c'
-    → Finds f (evidence_rungs h axis r c path) (evidence_rungs h axis r c (evidence_path f h sq roots axis r c)) v (cell_share h sq r c) o x y x' y'
-    → Finds f (evidence_rungs h axis' r' c' path) (evidence_rungs h axis' r' c' (evidence_path f h sq roots' axis' r' c')) v (cell_share h sq r' c') o x y x' y'
-finds_at f h sq roots roots' axis axis' r r' c c' v path o x y x' y' er ea e l finds =
-    subst (λ k. Finds f (evidence_rungs h axis' r' k path) (evidence_rungs h axis' r' k (evidence_path f h sq roots' axis' r' k)) v (cell_share h sq r' k) o x y x' y') l
-    (subst (λ k. Finds f (evidence_rungs h axis' k c path) (evidence_rungs h axis' k c (evidence_path f h sq roots' axis' k c)) v (cell_share h sq k c) o x y x' y') e
-    (subst (λ k. Finds f (evidence_rungs h k r c path) (evidence_rungs h k r c (evidence_path f h sq roots' k r c)) v (cell_share h sq r c) o x y x' y') ea
-    (subst (λ k. Finds f (evidence_rungs h axis r c path) (evidence_rungs h axis r c (evidence_path f h sq k axis r c)) v (cell_share h sq r c) o x y x' y') er finds)))
