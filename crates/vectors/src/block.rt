@@ -1,5 +1,5 @@
 // Blocks of data that a rule gives.
-use anyhow::anyhow;
+use crate::kinds::{CodeKind, HashKind};
 use erasure::code::Code;
 use erasure::kinds::{Cauchy, Polynomial};
 use hash::digest::Hash;
@@ -15,8 +15,8 @@ use std::alloc::Global;
 // What a block is made of: the kinds, k and the share size.
 #[derive(Clone, Copy, Drop)]
 pub struct Shape {
-    pub hash: u8,
-    pub code: u8,
+    pub hash: HashKind,
+    pub code: CodeKind,
     pub k: u16,
     pub s: u16,
 }
@@ -33,13 +33,11 @@ impl Block {
     // The share of a cell; it is empty for a cell outside the square.
     pub fn share(&self, cell: Cell) -> &[u8] {
         let s = usize::from(self.header.s);
-        let width = usize::from(self.header.k).wrapping_mul(2);
-        let line = usize::from(cell.row).wrapping_mul(width);
-        let from = line.wrapping_add(usize::from(cell.col)).wrapping_mul(s);
-        match self.square.as_slice().get(from..from.wrapping_add(s)) {
-            Some(share) => share,
-            None => &[],
-        }
+        self.header
+            .cell_number(cell)
+            .map(|number| number.wrapping_mul(s))
+            .and_then(|from| self.square.as_slice().get(from..from.wrapping_add(s)))
+            .unwrap_or(&[])
     }
 }
 
@@ -51,18 +49,23 @@ fn data(heap: Global, shape: Shape, n: usize) -> anyhow::Result<Vec<u8>> {
         .wrapping_mul(5)
         .wrapping_add(s.wrapping_mul(3))
         .wrapping_add(1);
-    let mut bytes = Vec::with_capacity(heap, n)?;
-    for i in 0..n {
-        let x = i.wrapping_mul(17).wrapping_add(first);
-        bytes.push((x % 253) as u8)?;
-    }
+    let bytes = (0..n)
+        .map(|i| (i.wrapping_mul(17).wrapping_add(first) % 253) as u8)
+        .collect(heap)?;
     Ok(bytes)
 }
 
 fn extended<H: Hash, C: Code>(heap: Global, shape: Shape) -> anyhow::Result<Block> {
     let k = usize::from(shape.k);
     let s = usize::from(shape.s);
-    let n = make_header(k, s, shape.hash, shape.code, &[0u8; DIGEST_LEN])?.lengths();
+    let blank = make_header(
+        k,
+        s,
+        shape.hash.into(),
+        shape.code.into(),
+        &[0u8; DIGEST_LEN],
+    )?;
+    let n = blank.lengths();
     let shares = data(heap, shape, n.data)?;
     let mut square = vec![in heap; 0u8; n.square]?;
     let mut roots = vec![in heap; 0u8; n.roots]?;
@@ -83,10 +86,9 @@ fn extended<H: Hash, C: Code>(heap: Global, shape: Shape) -> anyhow::Result<Bloc
 // The block of a shape, extended.
 pub fn block_of(heap: Global, shape: Shape) -> anyhow::Result<Block> {
     match (shape.hash, shape.code) {
-        (1, 1) => extended::<Sha256, Polynomial>(heap, shape),
-        (1, 2) => extended::<Sha256, Cauchy>(heap, shape),
-        (2, 1) => extended::<Sha3, Polynomial>(heap, shape),
-        (2, 2) => extended::<Sha3, Cauchy>(heap, shape),
-        _ => Err(anyhow!("a hash or a code is unknown")),
+        (HashKind::Sha256, CodeKind::Polynomial) => extended::<Sha256, Polynomial>(heap, shape),
+        (HashKind::Sha256, CodeKind::Cauchy) => extended::<Sha256, Cauchy>(heap, shape),
+        (HashKind::Sha3, CodeKind::Polynomial) => extended::<Sha3, Polynomial>(heap, shape),
+        (HashKind::Sha3, CodeKind::Cauchy) => extended::<Sha3, Cauchy>(heap, shape),
     }
 }

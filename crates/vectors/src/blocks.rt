@@ -1,7 +1,7 @@
 // Headers and roots of extended blocks, and the evidence of their cells.
 use crate::block::{Block, Shape, block_of};
-use crate::lines::Lines;
-use crate::text::{unhex, word};
+use crate::kinds::HashKind;
+use crate::text::{bytes, code_kind, hash_kind, word};
 use anyhow::anyhow;
 use evidence::check::check_share;
 use evidence::write::evidence_of;
@@ -18,8 +18,8 @@ const MOST_PROVED: u16 = 4;
 
 // `HASH CODE K S`
 fn shape(words: &mut SplitWhitespace<'_>) -> anyhow::Result<Shape> {
-    let hash = word(words)?.parse::<u8>()?;
-    let code = word(words)?.parse::<u8>()?;
+    let hash = hash_kind(words)?;
+    let code = code_kind(words)?;
     let k = word(words)?.parse::<u16>()?;
     let s = word(words)?.parse::<u16>()?;
     Ok(Shape { hash, code, k, s })
@@ -28,7 +28,10 @@ fn shape(words: &mut SplitWhitespace<'_>) -> anyhow::Result<Shape> {
 // Whether the header has what the block was made of.
 fn is_headed(block: &Block, shape: Shape) -> bool {
     let h = &block.header;
-    h.k == shape.k && h.s == shape.s && h.hash_kind == shape.hash && h.code_kind == shape.code
+    h.k == shape.k
+        && h.s == shape.s
+        && h.hash_kind == u8::from(shape.hash)
+        && h.code_kind == u8::from(shape.code)
 }
 
 // Checks the evidence of a cell by its row and by its column.
@@ -43,7 +46,7 @@ fn prove_cell<H: Hash>(block: &Block, cell: Cell, path: &mut [u8]) -> anyhow::Re
             axis,
             path,
         )?;
-        check_share::<H>(h, cell, axis as u8, block.share(cell), path)?;
+        check_share::<H>(h, cell, axis.into(), block.share(cell), path)?;
     }
     Ok(())
 }
@@ -64,18 +67,17 @@ fn prove(heap: Global, block: &Block) -> anyhow::Result<()> {
     if block.header.k > MOST_PROVED {
         return Ok(());
     }
-    match block.header.hash_kind {
-        1 => prove_cells::<Sha256>(heap, block),
-        2 => prove_cells::<Sha3>(heap, block),
-        _ => Err(anyhow!("a header has an unknown hash")),
+    match HashKind::try_from(block.header.hash_kind)? {
+        HashKind::Sha256 => prove_cells::<Sha256>(heap, block),
+        HashKind::Sha3 => prove_cells::<Sha3>(heap, block),
     }
 }
 
 // `block HASH CODE K S DATAROOT ROOTSDIGEST`
 fn block_agrees(heap: Global, words: &mut SplitWhitespace<'_>) -> anyhow::Result<bool> {
     let shape = shape(words)?;
-    let data_root = unhex(heap, word(words)?)?;
-    let roots_digest = unhex(heap, word(words)?)?;
+    let data_root = bytes(heap, words)?;
+    let roots_digest = bytes(heap, words)?;
     let block = block_of(heap, shape)?;
     prove(heap, &block)?;
     let mut digest = [0u8; DIGEST_LEN];
@@ -90,21 +92,17 @@ fn block_agrees(heap: Global, words: &mut SplitWhitespace<'_>) -> anyhow::Result
 // `roots HASH CODE K S ROOTS`
 fn roots_agree(heap: Global, words: &mut SplitWhitespace<'_>) -> anyhow::Result<bool> {
     let shape = shape(words)?;
-    let roots = unhex(heap, word(words)?)?;
+    let roots = bytes(heap, words)?;
     let block = block_of(heap, shape)?;
     Ok(roots.as_slice() == block.roots.as_slice())
 }
 
-// The lines of `blocks.txt`.
-pub struct Blocks;
-
-impl Lines for Blocks {
-    fn agrees(heap: Global, line: &str) -> anyhow::Result<bool> {
-        let mut words = line.split_whitespace();
-        match word(&mut words)? {
-            "block" => block_agrees(heap, &mut words),
-            "roots" => roots_agree(heap, &mut words),
-            _ => Err(anyhow!("a line has an unknown word")),
-        }
+// Whether the library answers as a line of `blocks.txt` says.
+pub fn agrees(heap: Global, line: &str) -> anyhow::Result<bool> {
+    let mut words = line.split_whitespace();
+    match word(&mut words)? {
+        "block" => block_agrees(heap, &mut words),
+        "roots" => roots_agree(heap, &mut words),
+        _ => Err(anyhow!("a line has an unknown word")),
     }
 }

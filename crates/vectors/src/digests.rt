@@ -1,6 +1,6 @@
 // Digests of messages in parts, and of whole messages.
-use crate::lines::Lines;
-use crate::text::{number, unhex, word};
+use crate::kinds::HashKind;
+use crate::text::{bytes, hash_kind, number, word};
 use anyhow::anyhow;
 use hash::digest::Hash;
 use hash::limits::DIGEST_LEN;
@@ -11,15 +11,11 @@ use std::str::SplitWhitespace;
 
 // Bytes `from` to `to` of the message whose parts have n bytes together; byte 0 is the lead.
 fn part(heap: Global, from: usize, to: usize, n: usize) -> anyhow::Result<Vec<u8>> {
-    let mut bytes = Vec::new(heap);
-    for i in from..to {
-        let x = i
-            .wrapping_mul(31)
-            .wrapping_add(n.wrapping_mul(7))
-            .wrapping_add(3);
-        bytes.push((x % 251) as u8)?;
-    }
-    Ok(bytes)
+    let first = n.wrapping_mul(7).wrapping_add(3);
+    let part = (from..to)
+        .map(|i| (i.wrapping_mul(31).wrapping_add(first) % 251) as u8)
+        .collect(heap)?;
+    Ok(part)
 }
 
 fn digest_in_parts<H: Hash>(
@@ -37,52 +33,46 @@ fn digest_in_parts<H: Hash>(
     Ok(out)
 }
 
-fn whole_digest(kind: usize, message: &[u8]) -> anyhow::Result<[u8; DIGEST_LEN]> {
-    let mut out = [0u8; DIGEST_LEN];
-    match kind {
-        1 => Sha256::hash_message(message, &mut out)?,
-        2 => Sha3::hash_message(message, &mut out)?,
-        _ => return Err(anyhow!("a line has an unknown hash")),
-    }
-    Ok(out)
-}
-
 // `digest KIND LEAD LEFT RIGHT HEX`
 fn in_parts(heap: Global, words: &mut SplitWhitespace<'_>) -> anyhow::Result<[u8; DIGEST_LEN]> {
-    let kind = number(words)?;
+    let kind = hash_kind(words)?;
     let lead = word(words)?.parse::<u8>()?;
     let left = number(words)?;
     let right = number(words)?;
     match kind {
-        1 => digest_in_parts::<Sha256>(heap, lead, left, right),
-        2 => digest_in_parts::<Sha3>(heap, lead, left, right),
-        _ => Err(anyhow!("a line has an unknown hash")),
+        HashKind::Sha256 => digest_in_parts::<Sha256>(heap, lead, left, right),
+        HashKind::Sha3 => digest_in_parts::<Sha3>(heap, lead, left, right),
     }
+}
+
+fn whole_digest(kind: HashKind, message: &[u8]) -> anyhow::Result<[u8; DIGEST_LEN]> {
+    let mut out = [0u8; DIGEST_LEN];
+    match kind {
+        HashKind::Sha256 => Sha256::hash_message(message, &mut out)?,
+        HashKind::Sha3 => Sha3::hash_message(message, &mut out)?,
+    }
+    Ok(out)
 }
 
 // `message KIND HEX HEX`, with - for the empty message
 fn whole(heap: Global, words: &mut SplitWhitespace<'_>) -> anyhow::Result<[u8; DIGEST_LEN]> {
-    let kind = number(words)?;
+    let kind = hash_kind(words)?;
     let text = word(words)?;
     if text == "-" {
         return whole_digest(kind, &[]);
     }
-    let message = unhex(heap, text)?;
+    let message = hex::decode(heap, text)?;
     whole_digest(kind, message.as_slice())
 }
 
-// The lines of `digests.txt`.
-pub struct Digests;
-
-impl Lines for Digests {
-    fn agrees(heap: Global, line: &str) -> anyhow::Result<bool> {
-        let mut words = line.split_whitespace();
-        let ours = match word(&mut words)? {
-            "digest" => in_parts(heap, &mut words)?,
-            "message" => whole(heap, &mut words)?,
-            _ => return Err(anyhow!("a line has an unknown word")),
-        };
-        let theirs = unhex(heap, word(&mut words)?)?;
-        Ok(theirs.as_slice() == ours.as_slice())
-    }
+// Whether the library answers as a line of `digests.txt` says.
+pub fn agrees(heap: Global, line: &str) -> anyhow::Result<bool> {
+    let mut words = line.split_whitespace();
+    let ours = match word(&mut words)? {
+        "digest" => in_parts(heap, &mut words)?,
+        "message" => whole(heap, &mut words)?,
+        _ => return Err(anyhow!("a line has an unknown word")),
+    };
+    let theirs = bytes(heap, &mut words)?;
+    Ok(theirs.as_slice() == ours.as_slice())
 }

@@ -2,20 +2,17 @@
 use anyhow::anyhow;
 use std::alloc::Global;
 
-// What the lines of a file say.
-pub trait Lines {
-    // Whether the library answers as a line says.
-    fn agrees(heap: Global, line: &str) -> anyhow::Result<bool>;
-}
-
-// Compares every line, and answers how many there are.
-pub fn compare<L: Lines>(heap: Global, lines: &str) -> anyhow::Result<usize> {
+// Compares every line, and answers how many there are; `agrees` says whether the library answers as a line says.
+pub fn compare<F: Fn(Global, &str) -> anyhow::Result<bool>>(
+    heap: Global,
+    lines: &str,
+    agrees: F,
+) -> anyhow::Result<usize>
+    requires { F.IsAlwaysCallable agrees }
+{
     let mut count = 0usize;
-    for line in lines.lines() {
-        if line.starts_with("#") {
-            continue;
-        }
-        if !L::agrees(heap, line)? {
+    for line in lines.lines().filter(|line| !line.starts_with("#")) {
+        if !agrees(heap, line)? {
             return Err(anyhow!(format!(in heap; "differs: {line}")?));
         }
         count = count.saturating_add(1);

@@ -6,29 +6,33 @@ mod block;
 mod blocks;
 mod codewords;
 mod digests;
+mod kinds;
 mod lines;
 mod refusals;
 mod text;
 
-use blocks::Blocks;
-use codewords::Codes;
-use digests::Digests;
-use lines::{Lines, compare};
+use std::alloc::Global;
 use std::fs;
 
 // Compares the file of this name.
-fn show<L: Lines>(rt: &HostRuntime, name: &str) -> anyhow::Result<()> {
+fn show<F: Fn(Global, &str) -> anyhow::Result<bool>>(
+    rt: &HostRuntime,
+    name: &str,
+    agrees: F,
+) -> anyhow::Result<()>
+    requires { F.IsAlwaysCallable agrees }
+{
     let file = format!(in rt.alloc(); "{name}.txt")?;
     let lines = fs::read_to_string(rt, file.as_str())?;
-    let count = compare::<L>(rt.alloc(), lines.as_str())?;
+    let count = lines::compare(rt.alloc(), lines.as_str(), agrees)?;
     println!(rt; "{name}: {count} agree")?;
     Ok(())
 }
 
 fn run(rt: &HostRuntime) -> anyhow::Result<()> {
-    show::<Digests>(rt, "digests")?;
-    show::<Codes>(rt, "codes")?;
-    show::<Blocks>(rt, "blocks")?;
+    show(rt, "digests", digests::agrees)?;
+    show(rt, "codes", codewords::agrees)?;
+    show(rt, "blocks", blocks::agrees)?;
     let count = refusals::compare(rt.alloc())?;
     println!(rt; "refusals: {count} as expected")?;
     Ok(())

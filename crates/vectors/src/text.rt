@@ -1,4 +1,5 @@
 // Words and numbers of a line of vectors.
+use crate::kinds::{CodeKind, HashKind};
 use anyhow::anyhow;
 use std::alloc::Global;
 use std::str::SplitWhitespace;
@@ -16,27 +17,17 @@ pub fn number(words: &mut SplitWhitespace<'_>) -> anyhow::Result<usize> {
     Ok(word(words)?.parse::<usize>()?)
 }
 
-fn digit(b: u8) -> anyhow::Result<u8> {
-    match b {
-        b'0'..=b'9' => Ok(b - b'0'),
-        b'a'..=b'f' => Ok(b - b'a' + 10),
-        _ => Err(anyhow!("a digit is not hexadecimal")),
-    }
+// The next word, as a hash.
+pub fn hash_kind(words: &mut SplitWhitespace<'_>) -> anyhow::Result<HashKind> {
+    HashKind::try_from(word(words)?.parse::<u8>()?)
 }
 
-// The bytes that a word has in hexadecimal.
-pub fn unhex(heap: Global, w: &str) -> anyhow::Result<Vec<u8>> {
-    let mut bytes = Vec::new(heap);
-    let mut high = None;
-    for b in w.bytes() {
-        let d = digit(b)?;
-        match high {
-            None => high = Some(d),
-            Some(h) => {
-                bytes.push((h % 16) * 16 + d % 16)?;
-                high = None;
-            }
-        }
-    }
-    Ok(bytes)
+// The next word, as a code.
+pub fn code_kind(words: &mut SplitWhitespace<'_>) -> anyhow::Result<CodeKind> {
+    CodeKind::try_from(word(words)?.parse::<u8>()?)
+}
+
+// The next word, as bytes in hexadecimal.
+pub fn bytes(heap: Global, words: &mut SplitWhitespace<'_>) -> anyhow::Result<Vec<u8>> {
+    Ok(hex::decode(heap, word(words)?)?)
 }
