@@ -1,6 +1,6 @@
 // A block of two by two shares of one byte, extended.
 use crate::shares;
-use crate::text::{hex, numbers};
+use crate::text::numbers;
 use erasure::kinds::Polynomial;
 use hash::limits::DIGEST_LEN;
 use header::header::Header;
@@ -27,7 +27,7 @@ fn show_square(rt: &HostRuntime, square: &[u8]) -> anyhow::Result<()> {
 
 fn show_lines(rt: &HostRuntime, axis: &str, roots: &[u8]) -> anyhow::Result<()> {
     for (i, root) in roots.chunks(DIGEST_LEN).enumerate() {
-        let digest = hex(rt.alloc(), root)?;
+        let digest = hex::encode(rt.alloc(), root)?;
         println!(rt; "  {axis:<6} {i}  {digest}")?;
     }
     Ok(())
@@ -41,7 +41,7 @@ fn show_roots(rt: &HostRuntime, roots: &[u8; 256]) -> anyhow::Result<()> {
 }
 
 fn show_header(rt: &HostRuntime, h: &Header) -> anyhow::Result<()> {
-    let root = hex(rt.alloc(), &h.data_root)?;
+    let root = hex::encode(rt.alloc(), h.data_root.as_slice())?;
     println!(rt; "")?;
     println!(rt; "Its header, with the root of the tree over these roots")?;
     println!(rt; "  k           {}", h.k)?;

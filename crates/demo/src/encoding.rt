@@ -1,6 +1,5 @@
 // A row of two shares, encoded by both codes, and recovered from two of the four.
 use crate::text::numbers;
-use anyhow::anyhow;
 use erasure::calls::{encode, recover};
 use erasure::code::Code;
 use erasure::kinds::{Cauchy, Polynomial};
@@ -13,18 +12,14 @@ const KEPT: [u16; 2] = [1, 3];
 
 fn encoded<C: Code>() -> anyhow::Result<[u8; 4]> {
     let mut word = [0u8; 4];
-    match encode::<C>(2, 1, &SHARES, &mut word) {
-        Ok(()) => Ok(word),
-        Err(_) => Err(anyhow!("the row is not encoded")),
-    }
+    encode::<C>(2, 1, &SHARES, &mut word)?;
+    Ok(word)
 }
 
 fn recovered<C: Code>(kept: &[u8]) -> anyhow::Result<[u8; 4]> {
     let mut word = [0u8; 4];
-    match recover::<C>(2, 1, &KEPT, kept, &mut word) {
-        Ok(()) => Ok(word),
-        Err(_) => Err(anyhow!("the row is not recovered")),
-    }
+    recover::<C>(2, 1, &KEPT, kept, &mut word)?;
+    Ok(word)
 }
 
 fn show_code<C: Code>(rt: &HostRuntime, name: &str) -> anyhow::Result<()> {

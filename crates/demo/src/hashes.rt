@@ -1,5 +1,4 @@
 // The leaf digests of a block's shares, by both hashes.
-use crate::text::hex;
 use hash::digest::Hash;
 use hash::limits::DIGEST_LEN;
 use sha3::digest::Sha3;
@@ -13,7 +12,7 @@ const SHARES: [&str; 4] = ["share 00", "share 01", "share 10", "share 11"];
 fn leaf<H: Hash>(heap: Global, share: &[u8]) -> anyhow::Result<String> {
     let mut digest = [0u8; DIGEST_LEN];
     H::digest(0, share, &[], &mut digest)?;
-    Ok(hex(heap, &digest)?)
+    Ok(hex::encode(heap, digest.as_slice())?)
 }
 
 pub fn show(rt: &HostRuntime) -> anyhow::Result<()> {

@@ -1,5 +1,4 @@
 // A share of the block and its evidence, checked with nothing but the header.
-use crate::text::hex;
 use evidence::check::check_share;
 use evidence::write::evidence_of;
 use hash::limits::DIGEST_LEN;
@@ -27,7 +26,7 @@ fn show_path(rt: &HostRuntime, path: &[u8]) -> anyhow::Result<()> {
         "The evidence of the share in row 1 and column 2, by its row: digests up to the data root"
     )?;
     for digest in path.chunks(DIGEST_LEN) {
-        let text = hex(rt.alloc(), digest)?;
+        let text = hex::encode(rt.alloc(), digest)?;
         println!(rt; "  {text}")?;
     }
     Ok(())

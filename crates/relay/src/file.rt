@@ -1,113 +1,102 @@
 // The block as a file: written record by record, opened, and looked at.
-use crate::text::hex;
+use crate::block::Block;
 use blockfile::file::BlockFile;
 use blockfile::open::open_file;
-use evidence::write::evidence_of;
-use header::cell::{Axis, Cell};
-use header::header::Header;
+use hash::digest::Hash;
+use header::cell::Cell;
 use sha256::digest::Sha256;
+use std::alloc::Global;
 use wire::record::Record;
 use wire::write::write_record;
 
-fn append(
-    rt: &HostRuntime,
-    h: &Header,
-    item: &Record,
-    body: usize,
-    file: &mut Vec<u8>,
-) -> anyhow::Result<()> {
-    let mut bytes = vec![in rt.alloc(); 0u8; body.wrapping_add(6)]?;
-    write_record(h, item, bytes.as_mut_slice())?;
-    file.extend_from_slice(bytes.as_slice())?;
-    Ok(())
+// A block file of which some records are written.
+#[derive(Drop)]
+struct Writer<'a> {
+    heap: Global,
+    block: &'a Block,
+    bytes: Vec<u8>,
 }
 
-// The header and the roots.
-fn append_front(
-    rt: &HostRuntime,
-    h: &Header,
-    roots: &[u8],
-    file: &mut Vec<u8>,
-) -> anyhow::Result<()> {
-    let n = h.lengths();
-    let front = Record::Header {
-        k: h.k,
-        s: h.s,
-        hash_kind: h.hash_kind,
-        code_kind: h.code_kind,
-        data_root: &h.data_root,
-    };
-    append(rt, h, &front, n.header_body, file)?;
-    let next = Record::Roots(roots);
-    append(rt, h, &next, n.roots, file)
-}
+impl<'a> Writer<'a> {
+    // Appends a record with a body of so many bytes.
+    fn append(&mut self, item: &Record, body: usize) -> anyhow::Result<()> {
+        let mut record = vec![in self.heap; 0u8; body.wrapping_add(6)]?;
+        write_record(&self.block.header, item, record.as_mut_slice())?;
+        self.bytes.extend_from_slice(record.as_slice())?;
+        Ok(())
+    }
 
-// One share with its path, in the group of its row.
-fn append_share(
-    rt: &HostRuntime,
-    h: &Header,
-    square: &[u8; 16],
-    roots: &[u8],
-    cell: Cell,
-    file: &mut Vec<u8>,
-) -> anyhow::Result<()> {
-    let mut path = [0u8; 160];
-    evidence_of::<Sha256>(h, square, roots, cell, Axis::Row, &mut path)?;
-    let number = (cell.row % 4) as usize * 4 + (cell.col % 4) as usize;
-    let item = Record::Share {
-        place: cell.col,
-        share: &square[number..number + 1],
-        path: &path,
-    };
-    append(rt, h, &item, h.lengths().share_body, file)
-}
+    // The header and the roots.
+    fn append_front(&mut self) -> anyhow::Result<()> {
+        let block = self.block;
+        let h = &block.header;
+        let n = h.lengths();
+        let front = Record::Header {
+            k: h.k,
+            s: h.s,
+            hash_kind: h.hash_kind,
+            code_kind: h.code_kind,
+            data_root: &h.data_root,
+        };
+        self.append(&front, n.header_body)?;
+        self.append(&Record::Roots(&block.roots), n.roots)
+    }
 
-fn group<'a>(index: u16) -> Record<'a> {
-    Record::Group { axis: 0, index }
-}
+    // One share with its path, in the group of its row.
+    fn append_share(&mut self, cell: Cell) -> anyhow::Result<()> {
+        let block = self.block;
+        let path = block.path(cell)?;
+        let item = Record::Share {
+            place: cell.col,
+            share: block.share(cell)?,
+            path: &path,
+        };
+        self.append(&item, block.header.lengths().share_body)
+    }
 
-fn group_end<'a>() -> Record<'a> {
-    Record::GroupEnd
+    // The group of a row with all its shares.
+    fn append_row(&mut self, row: u16) -> anyhow::Result<()> {
+        let begin = Record::Group {
+            axis: 0,
+            index: row,
+        };
+        self.append(&begin, 3)?;
+        for col in 0..4u16 {
+            self.append_share(Cell { row, col })?;
+        }
+        self.append(&Record::GroupEnd, 0)
+    }
 }
 
 // A block file with a group for each row and all its shares.
-pub fn written(
-    rt: &HostRuntime,
-    h: &Header,
-    square: &[u8; 16],
-    roots: &[u8],
-) -> anyhow::Result<Vec<u8>> {
-    let mut file = Vec::new(rt.alloc());
-    append_front(rt, h, roots, &mut file)?;
+pub fn written(rt: &HostRuntime, block: &Block) -> anyhow::Result<Vec<u8>> {
+    let mut writer = Writer {
+        heap: rt.alloc(),
+        block,
+        bytes: Vec::new(rt.alloc()),
+    };
+    writer.append_front()?;
     for row in 0..4u16 {
-        let begin = group(row);
-        append(rt, h, &begin, 3, &mut file)?;
-        for col in 0..4u16 {
-            append_share(rt, h, square, roots, Cell { row, col }, &mut file)?;
-        }
-        let end = group_end();
-        append(rt, h, &end, 0, &mut file)?;
+        writer.append_row(row)?;
     }
-    Ok(file)
+    Ok(writer.bytes)
 }
 
 // How many cells of the square the file has a share of.
 fn shares(file: &BlockFile) -> usize {
-    let mut n = 0usize;
-    for row in 0..4u16 {
-        for col in 0..4u16 {
-            if file.evidence(Cell { row, col }).is_some() {
-                n = n.wrapping_add(1);
-            }
-        }
-    }
-    n
+    (0..16u16)
+        .map(|number| Cell {
+            row: number / 4,
+            col: number % 4,
+        })
+        .filter(|cell| file.evidence(*cell).is_some())
+        .count()
 }
 
 pub fn show_digest(rt: &HostRuntime, bytes: &[u8]) -> anyhow::Result<()> {
     let mut digest = [0u8; 32];
     let _ = Sha256::hash_message(bytes, &mut digest);
-    let text = hex(rt.alloc(), &digest)?;
+    let text = hex::encode(rt.alloc(), digest.as_slice())?;
     println!(rt; "  SHA-256     {text}")?;
     Ok(())
 }
@@ -117,7 +106,7 @@ fn show_file(rt: &HostRuntime, file: &BlockFile) -> anyhow::Result<()> {
     println!(rt; "opened, it is a block of k {} and share size {}", h.k, h.s)?;
     println!(rt; "  shares      {}", shares(file))?;
     if let Some(found) = file.evidence(Cell { row: 1, col: 2 }) {
-        let share = hex(rt.alloc(), found.share)?;
+        let share = hex::encode(rt.alloc(), found.share)?;
         println!(rt;
             "  row 1, column 2 has the share {share}, and a path of {} bytes",
             found.path.len()
@@ -129,10 +118,7 @@ fn show_file(rt: &HostRuntime, file: &BlockFile) -> anyhow::Result<()> {
 // The file without its last record, which ends the last group.
 fn show_refusals(rt: &HostRuntime, bytes: &[u8]) -> anyhow::Result<()> {
     let mut file = BlockFile::empty();
-    let cut = bytes.len().saturating_sub(6);
-    let Some(front) = bytes.get(0..cut) else {
-        return Ok(());
-    };
+    let front = &bytes[..bytes.len().saturating_sub(6)];
     if let Err(e) = open_file(&mut file, front) {
         println!(rt;
             "without the end of its last group it is refused by {}: {e}",

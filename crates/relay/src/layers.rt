@@ -1,5 +1,4 @@
 // A relay's view of the block: a checking cache over a layer that withholds a row, over the file.
-use crate::text::hex;
 use blockfile::file::BlockFile;
 use blockfile::open::open_file;
 use cache::cache::Cache;
@@ -25,7 +24,7 @@ fn ask<S: Store>(rt: &HostRuntime, store: &mut S, cell: Cell) -> anyhow::Result<
     let mut share = [0u8; 1];
     let mut path = [0u8; 160];
     let shown = store.show(cell, &mut share, &mut path)?;
-    let text = hex(rt.alloc(), &share)?;
+    let text = hex::encode(rt.alloc(), share.as_slice())?;
     match shown {
         Some(_) => println!(rt; "  row {}, column {}: {text}", cell.row, cell.col)?,
         None => println!(rt; "  row {}, column {}: nothing", cell.row, cell.col)?,

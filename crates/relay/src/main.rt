@@ -3,10 +3,11 @@
 #![tactic(auto)]
 
 mod accusation;
+mod block;
 mod file;
 mod layers;
-mod text;
 
+use block::Block;
 use erasure::kinds::Polynomial;
 use sha256::digest::Sha256;
 use square::extend::extend;
@@ -17,11 +18,16 @@ const SHARES: [u8; 4] = [1, 2, 3, 4];
 fn run(rt: &HostRuntime) -> anyhow::Result<()> {
     let mut square = [0u8; 16];
     let mut roots = [0u8; 256];
-    let h = extend::<Sha256, Polynomial>(2, 1, &SHARES, &mut square, &mut roots)?;
-    let bytes = file::written(rt, &h, &square, &roots)?;
+    let header = extend::<Sha256, Polynomial>(2, 1, &SHARES, &mut square, &mut roots)?;
+    let block = Block {
+        header,
+        square,
+        roots,
+    };
+    let bytes = file::written(rt, &block)?;
     file::show(rt, bytes.as_slice())?;
-    layers::show(rt, &h, bytes.as_slice())?;
-    accusation::show(rt, &h, &square)
+    layers::show(rt, &block.header, bytes.as_slice())?;
+    accusation::show(rt, &block)
 }
 
 fn main(rt: HostRuntime) -> anyhow::Result<()> {
