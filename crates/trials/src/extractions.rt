@@ -1,11 +1,11 @@
 // False proofs against a good block under a hash that is easily broken, and the collisions that are extracted from them.
-use crate::accuse::{Claimed, Small, Witnessed, committed, proof_of};
+use crate::accuse::{AT_0, AT_1, ROW_1, Witnessed, proof_of};
+use crate::block::{Block, SQUARE};
 use erasure::kinds::Polynomial;
 use extraction::extract::extract;
 use fraud::check::check_proof;
 use hash::digest::Hash;
-use header::cell::Axis::{Column, Row};
-use octets::compare::same;
+use header::cell::Axis;
 use std::alloc::Global;
 use std::process::Abort;
 use std::test::*;
@@ -13,31 +13,9 @@ use weakhash::Weak;
 
 const DATA: [u8; 4] = [1, 2, 3, 4];
 
-// Its extension.
-const SQUARE: [u8; 16] = [1, 2, 7, 4, 3, 4, 13, 10, 5, 14, 19, 24, 7, 8, 25, 22];
-
-const ROW_1: Claimed = Claimed {
-    axis: 0,
-    index: 1,
-    root_of: 1,
-    path_of: (Row, 1),
-};
-
-const AT_0: Witnessed = Witnessed {
-    place: 0,
-    axis: Row,
-    cell: (1, 0),
-};
-
-const AT_1: Witnessed = Witnessed {
-    place: 1,
-    axis: Column,
-    cell: (1, 1),
-};
-
 const AT_1_BY_ROW: Witnessed = Witnessed {
     place: 1,
-    axis: Row,
+    axis: Axis::Row,
     cell: (1, 1),
 };
 
@@ -51,7 +29,7 @@ fn digest_of(string: &[u8]) -> Result<[u8; 32], Fail> {
 }
 
 // Extracts from an accepted proof: the strings differ, have one digest, and nothing is written behind them.
-fn extracted(rt: &impl Abort, b: &Small, proof: &[u8]) -> Result<usize, Fail> {
+fn extracted(rt: &impl Abort, b: &Block, proof: &[u8]) -> Result<usize, Fail> {
     let mut one = [0xaau8; 513];
     let mut other = [0xbbu8; 513];
     let mut scratch = [0u8; 16];
@@ -64,63 +42,66 @@ fn extracted(rt: &impl Abort, b: &Small, proof: &[u8]) -> Result<usize, Fail> {
         &mut scratch,
     )?;
     assert!(rt; n < 513);
-    assert!(rt; !same(&one[0..n], &other[0..n]), "the strings differ");
+    assert!(rt; one[0..n] != other[0..n], "the strings differ");
     let first = digest_of(&one[0..n])?;
     let second = digest_of(&other[0..n])?;
-    assert!(rt; same(&first, &second), "they have one digest");
+    assert!(rt; first == second, "they have one digest");
     assert!(rt; one[n] == 0xaa);
     assert!(rt; other[n] == 0xbb);
     Ok(n)
 }
 
-// Every other share at row 1 and column 0, with the path of the true one: how many proofs are accepted, and how many of their
-// collisions are at the leaf.
-fn wrong_shares(rt: &impl Abort, heap: Global, good: &Small) -> Result<(usize, usize), Fail> {
-    let mut accepted = 0usize;
-    let mut at_leaf = 0usize;
-    for x in 0..256usize {
-        let mut b = *good;
-        b.square[4] = (x % 256) as u8;
-        let proof = proof_of::<Weak>(rt, heap, &b, ROW_1, &[AT_0, AT_1])?;
-        if check_proof::<Weak, Polynomial>(&b.header, proof.as_slice()).is_ok() {
-            accepted = accepted.wrapping_add(1);
-            if extracted(rt, &b, proof.as_slice())? == 2 {
-                at_leaf = at_leaf.wrapping_add(1);
-            }
-        }
-    }
-    Ok((accepted, at_leaf))
+// Of every byte that a change puts into the good block: how many of the proofs are accepted, and of how many of them the collision is
+// at the first level, where a string has `first` bytes.
+#[derive(Clone, Copy, Drop)]
+struct Counts {
+    accepted: usize,
+    at_first: usize,
 }
 
-// Other roots claimed for row 1, with the path of the true one, and true witnesses.
-fn wrong_roots(rt: &impl Abort, heap: Global, good: &Small) -> Result<(usize, usize), Fail> {
-    let mut accepted = 0usize;
-    let mut at_leaf = 0usize;
-    for x in 0..256usize {
-        let mut b = *good;
-        b.roots[40] = (x % 256) as u8;
-        let proof = proof_of::<Weak>(rt, heap, &b, ROW_1, &[AT_0, AT_1_BY_ROW])?;
+fn try_all<F: Fn(&mut Block, u8)>(
+    rt: &impl Abort,
+    heap: Global,
+    witnesses: &[Witnessed],
+    first: usize,
+    change: F,
+) -> Result<Counts, Fail>
+    requires { F.IsAlwaysCallable change }
+{
+    let good = Block::committed::<Weak>(SQUARE)?;
+    let mut lengths = Vec::new(heap);
+    for x in 0..=255u8 {
+        let mut b = good;
+        change(&mut b, x);
+        let proof = proof_of::<Weak>(heap, &b, ROW_1, witnesses)?;
         if check_proof::<Weak, Polynomial>(&b.header, proof.as_slice()).is_ok() {
-            accepted = accepted.wrapping_add(1);
-            if extracted(rt, &b, proof.as_slice())? == 33 {
-                at_leaf = at_leaf.wrapping_add(1);
-            }
+            lengths.push(extracted(rt, &b, proof.as_slice())?)?;
         }
     }
-    Ok((accepted, at_leaf))
+    Ok(Counts {
+        accepted: lengths.len(),
+        at_first: lengths.iter().filter(|n| **n == first).count(),
+    })
 }
 
 #[test]
 fn false_proofs_give_collisions(rt: HostRuntime) -> Result<(), Fail> {
-    let good = committed::<Weak>(SQUARE)?;
-    let (shares, at_share) = wrong_shares(&rt, rt.alloc(), &good)?;
+    // Other shares at row 1 and column 0, with the path of the true one.
+    let shares = try_all(&rt, rt.alloc(), &[AT_0, AT_1], 2, |b, x| b.square[4] = x)?;
     assert!(rt;
-        at_share > 0 && at_share < shares,
+        shares.at_first > 0 && shares.at_first < shares.accepted,
         "collisions at the leaf and above it"
     );
-    let (roots, at_root) = wrong_roots(&rt, rt.alloc(), &good)?;
+    // Other roots claimed for row 1, with the path of the true one, and true witnesses.
+    let roots = try_all(
+        &rt,
+        rt.alloc(),
+        &[AT_0, AT_1_BY_ROW],
+        33,
+        |b, x| b.roots[40] = x,
+    )?;
     assert!(rt;
-        at_root > 0 && at_root < roots,
+        roots.at_first > 0 && roots.at_first < roots.accepted,
         "collisions at the claimed root and above it"
     );
     Ok(())

@@ -1,39 +1,45 @@
 // Block files that are refused, each with the number and the byte place that are expected, and some that open. The records of this
 // block have 44, 262, 9, 169 and 6 bytes: header, roots, group, share and group end.
-use crate::build::{Piece, Sample, file_of, small_block};
+use crate::block::Block;
+use crate::pieces::{Piece, file_of};
 use blockfile::file::BlockFile;
 use blockfile::open::open_file;
 use blockfile::refusal::FileRefusal;
+use erasure::kinds::Polynomial;
 use header::cell::Axis::{Column, Row};
+use sha256::digest::Sha256;
+use square::extend::extend;
 use std::alloc::Global;
 use std::process::Abort;
 use std::test::*;
 
-// How opening ends: 0 where the file opens, else the number of the refusal and its byte place.
-type End = (u8, Option<usize>);
+// How opening ends: the file opens, or it is refused by a number and a byte place.
+type End = Result<(), (u8, Option<usize>)>;
 
-const OPENS: End = (0, None);
+const OPENS: End = Ok(());
+
+fn told(refusal: FileRefusal) -> (u8, Option<usize>) {
+    match refusal {
+        FileRefusal::TooLong => (6, None),
+        FileRefusal::Read(e) => (e.fault.number(), Some(e.at)),
+        FileRefusal::SeenTwice { at } => (12, Some(at)),
+    }
+}
 
 fn end_of(bytes: &[u8]) -> End {
-    let mut file = BlockFile::empty();
-    match open_file(&mut file, bytes) {
-        Ok(()) => OPENS,
-        Err(FileRefusal::TooLong) => (6, None),
-        Err(FileRefusal::Read(e)) => (e.fault.number(), Some(e.at)),
-        Err(FileRefusal::SeenTwice { at }) => (12, Some(at)),
-    }
+    open_file(&mut BlockFile::empty(), bytes).map_err(told)
 }
 
 #[derive(Drop)]
 struct Bench {
     heap: Global,
-    block: Sample,
+    block: Block,
 }
 
 impl Bench {
     // Opens the file of these pieces.
     fn expect(&self, rt: &impl Abort, pieces: &[Piece], end: End) -> Result<(), Fail> {
-        let file = file_of(rt, self.heap, &self.block, pieces)?;
+        let file = file_of(self.heap, &self.block, pieces)?;
         assert_eq!(rt; end_of(file.as_slice()), end);
         Ok(())
     }
@@ -41,7 +47,7 @@ impl Bench {
     // Opens a file of a header and roots, which end at byte 306, and these bytes.
     fn behind(&self, rt: &impl Abort, bytes: &[u8], end: End) -> Result<(), Fail> {
         let pieces = [Piece::Header, Piece::Roots];
-        let mut file = file_of(rt, self.heap, &self.block, &pieces)?;
+        let mut file = file_of(self.heap, &self.block, &pieces)?;
         file.extend_from_slice(bytes)?;
         assert_eq!(rt; end_of(file.as_slice()), end);
         Ok(())
@@ -56,7 +62,7 @@ impl Bench {
             Piece::Share(Row, 0, 0),
             Piece::End,
         ];
-        let mut file = file_of(rt, self.heap, &self.block, &pieces)?;
+        let mut file = file_of(self.heap, &self.block, &pieces)?;
         let Some(place) = file.get_mut(at) else {
             return Err(Fail::new("no such byte"));
         };
@@ -68,8 +74,8 @@ impl Bench {
 
 // Something is due where the bytes end.
 fn lacking(rt: &impl Abort, b: &Bench) -> Result<(), Fail> {
-    b.expect(rt, &[], (10, Some(0)))?;
-    b.expect(rt, &[Piece::Header], (10, Some(44)))?;
+    b.expect(rt, &[], Err((10, Some(0))))?;
+    b.expect(rt, &[Piece::Header], Err((10, Some(44))))?;
     b.expect(rt, &[Piece::Header, Piece::Roots], OPENS)?;
     b.expect(
         rt,
@@ -79,23 +85,23 @@ fn lacking(rt: &impl Abort, b: &Bench) -> Result<(), Fail> {
             Piece::Group(0, 0),
             Piece::Share(Row, 0, 0),
         ],
-        (10, Some(484)),
+        Err((10, Some(484))),
     )
 }
 
 // A record that does not belong where it stands.
 fn not_due(rt: &impl Abort, b: &Bench) -> Result<(), Fail> {
-    b.expect(rt, &[Piece::Roots], (10, Some(0)))?;
-    b.expect(rt, &[Piece::Header, Piece::Header], (10, Some(44)))?;
+    b.expect(rt, &[Piece::Roots], Err((10, Some(0))))?;
+    b.expect(rt, &[Piece::Header, Piece::Header], Err((10, Some(44))))?;
     b.expect(
         rt,
         &[Piece::Header, Piece::Roots, Piece::End],
-        (10, Some(306)),
+        Err((10, Some(306))),
     )?;
     b.expect(
         rt,
         &[Piece::Header, Piece::Roots, Piece::Claim],
-        (10, Some(306)),
+        Err((10, Some(306))),
     )?;
     b.expect(
         rt,
@@ -105,7 +111,7 @@ fn not_due(rt: &impl Abort, b: &Bench) -> Result<(), Fail> {
             Piece::Group(0, 0),
             Piece::Claim,
         ],
-        (10, Some(315)),
+        Err((10, Some(315))),
     )?;
     b.expect(
         rt,
@@ -116,7 +122,7 @@ fn not_due(rt: &impl Abort, b: &Bench) -> Result<(), Fail> {
             Piece::Share(Row, 0, 0),
             Piece::Group(0, 1),
         ],
-        (10, Some(484)),
+        Err((10, Some(484))),
     )?;
     b.expect(
         rt,
@@ -127,48 +133,48 @@ fn not_due(rt: &impl Abort, b: &Bench) -> Result<(), Fail> {
             Piece::End,
             Piece::Share(Row, 0, 0),
         ],
-        (10, Some(321)),
+        Err((10, Some(321))),
     )
 }
 
 // Heads behind the roots: lengths of 0 and 0xFFFFFFFF, unknown kinds, and bytes too many.
 fn heads(rt: &impl Abort, b: &Bench) -> Result<(), Fail> {
-    b.behind(rt, &[0, 0, 0, 0, 3, 0], (9, Some(306)))?;
-    b.behind(rt, &[0xff, 0xff, 0xff, 0xff, 3, 0], (7, Some(306)))?;
-    b.behind(rt, &[0xff, 0xff, 0xff, 0xff, 0, 0], (7, Some(306)))?;
-    b.behind(rt, &[0, 0, 0, 0, 0, 0], (8, Some(306)))?;
-    b.behind(rt, &[0, 0, 0, 0, 6, 0], (8, Some(306)))?;
-    b.behind(rt, &[0, 0, 0, 0, 7, 0], (8, Some(306)))?;
-    b.behind(rt, &[0, 0, 0, 0, 0xff, 0xff], (8, Some(306)))?;
-    b.behind(rt, &[0, 0, 0, 0, 4, 0], (10, Some(306)))?;
+    b.behind(rt, &[0, 0, 0, 0, 3, 0], Err((9, Some(306))))?;
+    b.behind(rt, &[0xff, 0xff, 0xff, 0xff, 3, 0], Err((7, Some(306))))?;
+    b.behind(rt, &[0xff, 0xff, 0xff, 0xff, 0, 0], Err((7, Some(306))))?;
+    b.behind(rt, &[0, 0, 0, 0, 0, 0], Err((8, Some(306))))?;
+    b.behind(rt, &[0, 0, 0, 0, 6, 0], Err((8, Some(306))))?;
+    b.behind(rt, &[0, 0, 0, 0, 7, 0], Err((8, Some(306))))?;
+    b.behind(rt, &[0, 0, 0, 0, 0xff, 0xff], Err((8, Some(306))))?;
+    b.behind(rt, &[0, 0, 0, 0, 4, 0], Err((10, Some(306))))?;
     b.behind(
         rt,
         &[3, 0, 0, 0, 3, 0, 0, 0, 0, 0, 0, 0, 0, 3, 0],
-        (10, Some(315)),
+        Err((10, Some(315))),
     )?;
-    b.behind(rt, &[0], (7, Some(306)))?;
-    b.behind(rt, &[0; 2], (7, Some(306)))?;
-    b.behind(rt, &[0; 3], (7, Some(306)))?;
-    b.behind(rt, &[0; 4], (7, Some(306)))?;
-    b.behind(rt, &[0; 5], (7, Some(306)))
+    b.behind(rt, &[0], Err((7, Some(306))))?;
+    b.behind(rt, &[0; 2], Err((7, Some(306))))?;
+    b.behind(rt, &[0; 3], Err((7, Some(306))))?;
+    b.behind(rt, &[0; 4], Err((7, Some(306))))?;
+    b.behind(rt, &[0; 5], Err((7, Some(306))))
 }
 
 // One byte of a good file changed: lengths and values.
 fn values(rt: &impl Abort, b: &Bench) -> Result<(), Fail> {
-    b.changed(rt, 6, 3, (11, Some(0)))?;
-    b.changed(rt, 8, 0, (11, Some(0)))?;
-    b.changed(rt, 9, 2, (11, Some(0)))?;
+    b.changed(rt, 6, 3, Err((11, Some(0))))?;
+    b.changed(rt, 8, 0, Err((11, Some(0))))?;
+    b.changed(rt, 9, 2, Err((11, Some(0))))?;
     b.changed(rt, 10, 99, OPENS)?;
-    b.changed(rt, 0, 37, (9, Some(0)))?;
-    b.changed(rt, 44, 1, (9, Some(44)))?;
+    b.changed(rt, 0, 37, Err((9, Some(0))))?;
+    b.changed(rt, 44, 1, Err((9, Some(44))))?;
     b.changed(rt, 312, 1, OPENS)?;
-    b.changed(rt, 312, 2, (11, Some(306)))?;
-    b.changed(rt, 313, 4, (11, Some(306)))?;
-    b.changed(rt, 314, 1, (11, Some(306)))?;
-    b.changed(rt, 315, 0xa2, (9, Some(315)))?;
+    b.changed(rt, 312, 2, Err((11, Some(306))))?;
+    b.changed(rt, 313, 4, Err((11, Some(306))))?;
+    b.changed(rt, 314, 1, Err((11, Some(306))))?;
+    b.changed(rt, 315, 0xa2, Err((9, Some(315))))?;
     b.changed(rt, 321, 3, OPENS)?;
-    b.changed(rt, 321, 4, (11, Some(315)))?;
-    b.changed(rt, 322, 1, (11, Some(315)))
+    b.changed(rt, 321, 4, Err((11, Some(315))))?;
+    b.changed(rt, 322, 1, Err((11, Some(315))))
 }
 
 // A cell that comes twice, and groups that may come in any way.
@@ -185,7 +191,7 @@ fn cells(rt: &impl Abort, b: &Bench) -> Result<(), Fail> {
             Piece::Share(Column, 1, 2),
             Piece::End,
         ],
-        (12, Some(499)),
+        Err((12, Some(499))),
     )?;
     b.expect(
         rt,
@@ -196,7 +202,7 @@ fn cells(rt: &impl Abort, b: &Bench) -> Result<(), Fail> {
             Piece::Share(Row, 1, 2),
             Piece::Share(Row, 1, 2),
         ],
-        (12, Some(484)),
+        Err((12, Some(484))),
     )?;
     b.expect(
         rt,
@@ -217,35 +223,29 @@ fn cells(rt: &impl Abort, b: &Bench) -> Result<(), Fail> {
     )
 }
 
-// The end of the record that begins at a place of the file in `prefixes`, and whether the bytes may end there.
-fn record_end(at: usize) -> (usize, bool) {
-    match at {
-        0 => (44, false),
-        44 => (306, true),
-        306 => (315, false),
-        315 => (484, false),
-        484 => (653, false),
-        653 => (659, true),
-        659 => (668, false),
-        668 => (837, false),
-        _ => (843, true),
-    }
-}
+// Where the records of the file in `prefixes` end, and how the bytes up to there end.
+const RECORDS: [(usize, End); 9] = [
+    (44, Err((10, Some(44)))),
+    (306, OPENS),
+    (315, Err((10, Some(315)))),
+    (484, Err((10, Some(484)))),
+    (653, Err((10, Some(653)))),
+    (659, OPENS),
+    (668, Err((10, Some(668)))),
+    (837, Err((10, Some(837)))),
+    (843, OPENS),
+];
 
-// How the first n bytes of that file end: whole records, or the place of the record that is cut.
+// How the first n bytes of that file end: as the whole records do, or at the place of the record that is cut.
 fn prefix_end(n: usize) -> End {
     let mut at = 0;
-    let mut whole = (10, Some(0));
-    for _ in 0..9usize {
-        let (end, may_end) = record_end(at);
-        if at >= n {
-            return whole;
-        }
+    let mut whole = Err((10, Some(0)));
+    for (end, whole_to_here) in RECORDS {
         if n < end {
-            return (7, Some(at));
+            return if n == at { whole } else { Err((7, Some(at))) };
         }
-        whole = if may_end { OPENS } else { (10, Some(end)) };
         at = end;
+        whole = whole_to_here;
     }
     whole
 }
@@ -262,22 +262,31 @@ fn prefixes(rt: &impl Abort, b: &Bench) -> Result<(), Fail> {
         Piece::Share(Column, 0, 2),
         Piece::End,
     ];
-    let file = file_of(rt, b.heap, &b.block, &pieces)?;
+    let file = file_of(b.heap, &b.block, &pieces)?;
     assert_eq!(rt; file.len(), 843);
-    for n in 0..844usize {
-        let Some(front) = file.as_slice().get(0..n) else {
-            return Err(Fail::new("no such prefix"));
-        };
-        assert_eq!(rt; end_of(front), prefix_end(n));
+    for n in 0..=file.len() {
+        assert_eq!(rt; end_of(&file.as_slice()[..n]), prefix_end(n));
     }
     Ok(())
+}
+
+// The block of rows 1 2 and 3 4, extended.
+fn extended() -> Result<Block, Fail> {
+    let mut square = [0u8; 16];
+    let mut roots = [0u8; 256];
+    let header = extend::<Sha256, Polynomial>(2, 1, &[1, 2, 3, 4], &mut square, &mut roots)?;
+    Ok(Block {
+        header,
+        square,
+        roots,
+    })
 }
 
 #[test]
 fn bad_files(rt: HostRuntime) -> Result<(), Fail> {
     let b = Bench {
         heap: rt.alloc(),
-        block: small_block()?,
+        block: extended()?,
     };
     lacking(&rt, &b)?;
     not_due(&rt, &b)?;
@@ -286,6 +295,6 @@ fn bad_files(rt: HostRuntime) -> Result<(), Fail> {
     cells(&rt, &b)?;
     prefixes(&rt, &b)?;
     let long = vec![in b.heap; 0u8; 4194305]?;
-    assert_eq!(rt; end_of(long.as_slice()), (6, None));
+    assert_eq!(rt; end_of(long.as_slice()), Err((6, None)));
     Ok(())
 }

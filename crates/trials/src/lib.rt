@@ -6,8 +6,10 @@ mod accuse;
 #[cfg(test)]
 mod attacks;
 #[cfg(test)]
-mod build;
+mod block;
 #[cfg(test)]
 mod extractions;
 #[cfg(test)]
 mod files;
+#[cfg(test)]
+mod pieces;
