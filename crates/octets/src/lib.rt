@@ -1,7 +1,6 @@
 // What every layer shares: parts of byte slices, and how a call answers.
 #![tactic(auto)]
 
-pub mod compare;
 pub mod misfit;
 pub mod parts;
 pub mod splice;

@@ -6,7 +6,8 @@ ghost use Rattle.sha256.specs.Vars.{vars};
 
 use crate::schedule::{BLOCK, schedule};
 
-// The eight working variables, which are the hash value between blocks.
+// The eight working variables, which are the hash value between blocks. They have the standard's names, a to h, and not places in an
+// array: a round gives each of them a rule of its own, which is read beside the standard's.
 #[derive(Clone, Copy)]
 pub struct Work {
     pub a: u32,
@@ -101,7 +102,7 @@ fn rounds(v: Work, w: &[u32; 64]) -> Work
     t
 }
 
-// The variables before the rounds and after them, added word by word.
+// The variables before the rounds and after them, added word by word. They are named, so no `zip` goes along them.
 fn total(v: Work, t: Work) -> Work
     ensures { vars result ≡ sums (vars v) (vars t) }
 {

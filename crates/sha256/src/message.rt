@@ -20,7 +20,8 @@ fn put_length(buffer: &mut [u8], at: usize, len: usize)
     buffer[at..at + 8].copy_from_slice(&bits.to_be_bytes());
 }
 
-// Writes the words one after the other, each with its highest byte first.
+// Writes the words one after the other, each with its highest byte first. SHA3-256 writes longer ones, their lowest byte first: one
+// function for both would take the conversion as a closure, and require that it may be called, to save this line.
 fn put_words(out: &mut [u8], words: &[u32])
     requires { length out.old ≡ 4 * length words.now }
     ensures { out.new ≡ flat_map word_bytes words.now }
