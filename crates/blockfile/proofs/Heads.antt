@@ -6,7 +6,7 @@ use Rattle.octets.specs.Outcome.{Refused, plain, outcome_by}
 use Rattle.hash.specs.Digests.{digest_len}
 use Rattle.erasure.specs.Limits.{ok_width, ok_size}
 use Rattle.header.specs.Fields.{Fields, header_outcome}
-use Rattle.header.specs.Sizes.{head_len, header_body, roots_len}
+use Rattle.header.specs.Sizes.{head_len, header_body_len, roots_len}
 use Rattle.wire.specs.declared.due.Due.TheVariants as due
 use Rattle.wire.specs.declared.record.Record.{Record}
 use Rattle.wire.specs.declared.record.Record.TheVariants.{Header, Roots, Group, Share, GroupEnd, Claim, Witness}

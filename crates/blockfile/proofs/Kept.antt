@@ -8,7 +8,7 @@ use Rattle.header.specs.declared.cell.Axis.{Axis}
 use Rattle.header.specs.declared.cell.Axis.TheVariants.{Row}
 use Rattle.header.specs.Fields.{Fields}
 use Rattle.header.specs.Lines.{row_at, col_at}
-use Rattle.header.specs.Sizes.{width, has_cell, cell_number, head_len, path_len, share_body}
+use Rattle.header.specs.Sizes.{width, has_cell, cell_number, head_len, path_len, share_body_len}
 use Rattle.evidence.specs.Evidence.{Evidence}
 use Rattle.blockfile.specs.declared.index.Index.{Index}
 use Rattle.blockfile.specs.Index.{indexed, evidence_by, evidence_in, marked, Within}
@@ -114,7 +114,7 @@ module _ (h : Fields) (bs : List ℕ) (es : List Entry) (ix : Index) (st : Stand
     ];
     within = λ j l some'. elim (cases_eq j cell) [
       | inl e ↦ let a : get_or (set ix.at cell at) j 0 ≡ at = ap (λ m. get_or (set ix.at cell at) m 0) e ∙ get_or-set_same ix.at cell at 0 (omega (arith, n_low, st.at_long)) in omega (arith, a, parts.long)
-      | inr ne ↦ let a : get_or (set ix.at cell at) j 0 ≡ get_or ix.at j 0 = get_or-set_other ix.at cell j at 0 ne in subst (λ y. y + (head_len + share_body h) ≤ length bs) (sym a) (st.within j l (λ z. some' (a ∙ z)))
+      | inr ne ↦ let a : get_or (set ix.at cell at) j 0 ≡ get_or ix.at j 0 = get_or-set_other ix.at cell j at 0 ne in subst (λ y. y + (head_len + share_body_len h) ≤ length bs) (sym a) (st.within j l (λ z. some' (a ∙ z)))
     ];
     at_long = length-set ix.at cell at ∙ st.at_long;
     axis_long = length-set ix.axis cell x ∙ st.axis_long;

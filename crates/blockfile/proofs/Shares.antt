@@ -4,7 +4,7 @@ use Rattle.std.proofs.lemmas.List.{drop-take}
 use Rattle.std.proofs.lemmas.Bool.{eqb-true, or_cases}
 use Rattle.std.proofs.lemmas.Bool.Decides.{nat_tests}
 use Rattle.header.specs.Fields.{Fields}
-use Rattle.header.specs.Sizes.{width, head_len, path_len, share_body}
+use Rattle.header.specs.Sizes.{width, head_len, path_len, share_body_len}
 use Rattle.wire.specs.declared.due.Due.TheVariants as due
 use Rattle.wire.specs.declared.due.Due.{Due}
 use Rattle.wire.specs.Values.{Rec, group, share, end}
@@ -17,7 +17,7 @@ pub record Parts (h : Fields) (bs : List ℕ) (p : ℕ) (s q : List ℕ) : Type 
   pub share_is : s ≡ take h.s (drop 8 bs)
   pub path_is : q ≡ take (path_len h) (drop (8 + h.s) bs)
   pub place_low : p < width h
-  pub long : head_len + share_body h ≤ length bs
+  pub long : head_len + share_body_len h ≤ length bs
 
 place_of : (h : Fields) (p : ℕ) (s q : List ℕ) → in_range h (share p s q) ≡ true → p < width h
 unfolding in_range
@@ -37,7 +37,7 @@ share_read h at bs p s q rest e =
   where
     parts : Cut h due.InGroup bs (share p s q) rest → kind_in bs ≡ 4 → Parts h bs p s q
     parts c k =
-        let f : body_for h (kind_in bs) ≡ share_body h = ap (body_for h) k in
+        let f : body_for h (kind_in bs) ≡ share_body_len h = ap (body_for h) k in
         let n : body_len bs ≡ 2 + (h.s + path_len h) = c.body ∙ f ∙ omega arith in
         let b : List ℕ = take (body_len bs) (drop head_len bs) in
         let says : record_in h 4 b ≡ share p s q = ap (λ m. record_in h m b) (sym k) ∙ c.says in

@@ -3,7 +3,7 @@ use Rattle.std.specs.Prelude.{◌≡◌, ℕ, ◌+◌, ◌≤◌, List, [], leng
 use Rattle.octets.specs.Outcome.{Refused}
 use Rattle.header.specs.Fields.{Fields, fields_of}
 use Rattle.header.specs.declared.header.Header.{Header}
-use Rattle.header.specs.Sizes.{head_len, header_body, roots_len}
+use Rattle.header.specs.Sizes.{head_len, header_body_len, roots_len}
 use Rattle.evidence.specs.Evidence.{Evidence}
 use Rattle.wire.specs.Values.{header, roots}
 use Rattle.wire.specs.Reading.{reads_at}
@@ -33,7 +33,7 @@ Opens before (Err e) after = after ≡ before
 
 -- the bytes of a header record, and the place behind the roots
 abbrev pub roots_place : ℕ
-roots_place = head_len + header_body
+roots_place = head_len + header_body_len
 
 abbrev pub groups_place : Fields → ℕ
 groups_place h = roots_place + (head_len + roots_len h)

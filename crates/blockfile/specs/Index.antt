@@ -4,7 +4,7 @@ use Rattle.std.specs.Prelude.{ℕ, ◌+◌, ◌<◌, ◌≤◌, cond, List, take
 use Rattle.header.specs.declared.cell.Axis.{Axis}
 use Rattle.header.specs.declared.cell.Axis.TheVariants.{Row}
 use Rattle.header.specs.Fields.{Fields}
-use Rattle.header.specs.Sizes.{has_cell, cell_number, path_len, head_len, share_body}
+use Rattle.header.specs.Sizes.{has_cell, cell_number, path_len, head_len, share_body_len}
 use Rattle.evidence.specs.Evidence.{Evidence}
 use Rattle.blockfile.specs.declared.index.Index.{Index}
 use Rattle.blockfile.specs.declared.index.Place.{Place}
@@ -38,4 +38,4 @@ indexed h bs ix r c = cond (has_cell h r c) (evidence_by h bs (slice_index ix.at
 
 -- every record that an index names lies inside the file
 abbrev pub Within : Fields → ℕ → List ℕ → Type 0
-Within h n ps = (i : ℕ) → i < 4096 → (slice_index ps i ≢ 0) → slice_index ps i + (head_len + share_body h) ≤ n
+Within h n ps = (i : ℕ) → i < 4096 → (slice_index ps i ≢ 0) → slice_index ps i + (head_len + share_body_len h) ≤ n

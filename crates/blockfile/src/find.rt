@@ -4,7 +4,7 @@ ghost use Rattle.blockfile.specs.File.{evidence_of};
 ghost use Rattle.blockfile.specs.Found.{some_evidence};
 ghost use Rattle.blockfile.specs.Index.{evidence_in};
 ghost use Rattle.header.specs.Fields.{fields_of};
-ghost use Rattle.header.specs.Sizes.{head_len, share_body};
+ghost use Rattle.header.specs.Sizes.{head_len, share_body_len};
 ghost use Rattle.wire.specs.Parts.{after};
 
 use crate::file::BlockFile;
@@ -16,7 +16,7 @@ use header::header::Header;
 impl Place {
     // The evidence in the share record there: behind the head and the place number a share, and then a path.
     fn cut<'a>(self, h: &Header, bytes: &'a [u8]) -> Found<'a>
-        requires { self.at + (head_len + share_body (fields_of h.now)) ≤ length bytes.now }
+        requires { self.at + (head_len + share_body_len (fields_of h.now)) ≤ length bytes.now }
         ensures value { some_evidence (Some result) ≡ Some (evidence_in (fields_of h.now) bytes.now self.at self.axis) }
         ensures place { (result.share.ref_ptr ≡ after bytes.entry.ref_ptr (self.at + 8)) × (result.path.ref_ptr ≡ after bytes.entry.ref_ptr (self.at + (8 + (fields_of h.now).s))) }
     {

@@ -5,7 +5,7 @@ use Rattle.erasure.specs.Limits.{ok_width}
 use Rattle.header.specs.declared.cell.Axis.{Axis}
 use Rattle.header.specs.declared.cell.Axis.TheVariants.{Row}
 use Rattle.header.specs.Fields.{Fields}
-use Rattle.header.specs.Sizes.{has_cell, cell_number, path_len, head_len, share_body}
+use Rattle.header.specs.Sizes.{has_cell, cell_number, path_len, head_len, share_body_len}
 use Rattle.evidence.specs.Evidence.{Evidence}
 use Rattle.blockfile.specs.declared.index.Index.{Index}
 use Rattle.blockfile.specs.Index.{indexed, evidence_in, evidence_by, Within}
@@ -19,13 +19,13 @@ pub record Sized (h : Fields) (e : Evidence) : Type 0 where
 never : {A : Type 0} (e : Evidence) → ◌≡◌ {A = Option Evidence} None (Some e) → A
 never e p = let z : ◌≡◌ {A = ℕ} 0 1 = cc in absurd (omega arith)
 
-in_file : (h : Fields) (bs : List ℕ) (p : ℕ) (x : Axis) → p + (head_len + share_body h) ≤ length bs → Sized h (evidence_in h bs p x)
+in_file : (h : Fields) (bs : List ℕ) (p : ℕ) (x : Axis) → p + (head_len + share_body_len h) ≤ length bs → Sized h (evidence_in h bs p x)
 in_file h bs p x room = record {
   share = length-take-le h.s (drop (p + 8) bs) (simp length-drop (omega arith));
   path = length-take-le (path_len h) (drop (p + (8 + h.s)) bs) (simp length-drop (omega arith));
 }
 
-taken : (h : Fields) (bs : List ℕ) (p : ℕ) (x : Axis) (e : Evidence) → ((p ≡ 0 → ⊥) → p + (head_len + share_body h) ≤ length bs) → evidence_by h bs p x ≡ Some e → Sized h e
+taken : (h : Fields) (bs : List ℕ) (p : ℕ) (x : Axis) (e : Evidence) → ((p ≡ 0 → ⊥) → p + (head_len + share_body_len h) ≤ length bs) → evidence_by h bs p x ≡ Some e → Sized h e
 taken h bs p x e room q =
     elim (cases_Bool (eqb p 0)) [
       | inl t ↦ never e (sym (ap (λ b. cond b None (Some (evidence_in h bs p x))) t) ∙ q)

@@ -5,7 +5,7 @@ use Rattle.std.proofs.lemmas.Bool.Decides.{nat_tests}
 use Rattle.octets.specs.Outcome.{Refused}
 use Rattle.hash.specs.Digests.{digest_len}
 use Rattle.header.specs.Fields.{Fields}
-use Rattle.header.specs.Sizes.{width, head_len, claim_body, data_path_len}
+use Rattle.header.specs.Sizes.{width, head_len, claim_body_len, data_path_len}
 use Rattle.wire.specs.declared.due.Due.TheVariants as due
 use Rattle.wire.specs.Values as values
 use Rattle.wire.specs.Values.{Rec, claim}
@@ -25,7 +25,7 @@ pub record Read (h : Fields) (bs : List ℕ) (v : values.Claim) (rest : List ℕ
   pub index_low : v.index < width h
   pub root_long : length v.root ≡ digest_len
   pub path_long : length v.path ≡ data_path_len h
-  pub behind : length rest + (head_len + claim_body h) ≡ length bs
+  pub behind : length rest + (head_len + claim_body_len h) ≡ length bs
 
 -- where a claim is due no other record is read
 pub claim_due : (h : Fields) (at : ℕ) (bs : List ℕ) (x : Rec) (rest : List ℕ) → reads_at h due.Claim at bs ≡ Ok (x, rest) → (v : values.Claim) × (x ≡ claim v)
@@ -55,10 +55,10 @@ unfolding is_due body_for record_in
 claim_read h at bs x rest v p is =
     let c = cut_at h due.Claim at bs x rest p in
     let k : kind_in bs ≡ 16 = eqb-true _ 16 c.isdue in
-    let f : body_for h (kind_in bs) ≡ claim_body h = ap (body_for h) k in
-    let n : body_len bs ≡ claim_body h = c.body ∙ f in
+    let f : body_for h (kind_in bs) ≡ claim_body_len h = ap (body_for h) k in
+    let n : body_len bs ≡ claim_body_len h = c.body ∙ f in
     let b : List ℕ = take (body_len bs) (drop head_len bs) in
-    let long : length b ≡ claim_body h = length-take-le (body_len bs) (drop head_len bs) c.held ∙ n in
+    let long : length b ≡ claim_body_len h = length-take-le (body_len bs) (drop head_len bs) c.held ∙ n in
     let long3 : length (drop 3 b) ≡ digest_len + data_path_len h = length-drop 3 b ∙ omega arith in
     let says : record_in h 16 b ≡ claim v = ap (λ m. record_in h m b) (sym k) ∙ c.says ∙ is in
     let root_is : take digest_len (drop 3 b) ≡ v.root = ap first_of says in

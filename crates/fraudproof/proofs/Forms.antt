@@ -7,7 +7,7 @@ use Rattle.std.proofs.lemmas.Bool.{eqb-true, cond-true, cond-false}
 use Rattle.std.proofs.lemmas.Bool.Decides.{nat_tests}
 use Rattle.octets.specs.Outcome.{Refused}
 use Rattle.header.specs.Fields.{Fields}
-use Rattle.header.specs.Sizes.{width, head_len, path_len, witness_body}
+use Rattle.header.specs.Sizes.{width, head_len, path_len, witness_body_len}
 use Rattle.wire.specs.declared.due.Due.TheVariants as due
 use Rattle.wire.specs.Values as values
 use Rattle.wire.specs.Values.{Rec, witness}
@@ -18,14 +18,14 @@ use Rattle.fraudproof.specs.Proof.{witness_len, witness_of, witness_at}
 use Rattle.fraudproof.specs.Reads.{WitnessRecords}
 
 -- the body of a witness record, cut from bytes that begin with the record
-body_is : (h : Fields) (bs : List ℕ) → witness_in h (take (witness_body h) (drop head_len bs)) ≡ witness (witness_of h bs)
+body_is : (h : Fields) (bs : List ℕ) → witness_in h (take (witness_body_len h) (drop head_len bs)) ≡ witness (witness_of h bs)
 unfolding witness_of
 body_is h bs =
-    let b : List ℕ = take (witness_body h) (drop head_len bs) in
-    let g0 : get_or b 0 0 ≡ get_or bs 6 0 = get_or-take (witness_body h) (drop 6 bs) 0 0 (omega arith) ∙ get_or-drop 6 bs 0 0 in
-    let g1 : get_or b 1 0 ≡ get_or bs 7 0 = get_or-take (witness_body h) (drop 6 bs) 1 0 (omega arith) ∙ get_or-drop 6 bs 1 0 in
-    let g2 : get_or b 2 0 ≡ get_or bs 8 0 = get_or-take (witness_body h) (drop 6 bs) 2 0 (omega arith) ∙ get_or-drop 6 bs 2 0 in
-    let n : witness_body h ≡ 3 + (h.s + path_len h) = omega arith in
+    let b : List ℕ = take (witness_body_len h) (drop head_len bs) in
+    let g0 : get_or b 0 0 ≡ get_or bs 6 0 = get_or-take (witness_body_len h) (drop 6 bs) 0 0 (omega arith) ∙ get_or-drop 6 bs 0 0 in
+    let g1 : get_or b 1 0 ≡ get_or bs 7 0 = get_or-take (witness_body_len h) (drop 6 bs) 1 0 (omega arith) ∙ get_or-drop 6 bs 1 0 in
+    let g2 : get_or b 2 0 ≡ get_or bs 8 0 = get_or-take (witness_body_len h) (drop 6 bs) 2 0 (omega arith) ∙ get_or-drop 6 bs 2 0 in
+    let n : witness_body_len h ≡ 3 + (h.s + path_len h) = omega arith in
     let t : drop 3 b ≡ take (h.s + path_len h) (drop 9 bs) = ap (λ m. drop 3 (take m (drop 6 bs))) n ∙ drop-take 3 (h.s + path_len h) (drop 6 bs) ∙ ap (take (h.s + path_len h)) (drop-drop 3 6 bs) in
     let sh : take h.s (drop 3 b) ≡ take h.s (drop 9 bs) = ap (take h.s) t ∙ take-take h.s (h.s + path_len h) (drop 9 bs) (omega arith) in
     let pa : drop h.s (drop 3 b) ≡ take (path_len h) (drop (9 + h.s) bs) = ap (drop h.s) t ∙ drop-take h.s (path_len h) (drop 9 bs) ∙ ap (take (path_len h)) (drop-drop h.s 9 bs) in
@@ -53,8 +53,8 @@ witness_read h at bs x rest p =
     let c = cut_at h due.Witness at bs x rest p in
     let k : kind_in bs ≡ 17 = eqb-true _ 17 c.isdue in
     let b = behind_is h due.Witness bs x rest c in
-    let f : body_for h (kind_in bs) ≡ witness_body h = ap (body_for h) k in
-    let says : record_in h 17 (take (witness_body h) (drop head_len bs)) ≡ x = ap (λ m. record_in h m (take (witness_body h) (drop head_len bs))) (sym k) ∙ ap (λ m. record_in h (kind_in bs) (take m (drop head_len bs))) (sym (c.body ∙ f)) ∙ c.says in
+    let f : body_for h (kind_in bs) ≡ witness_body_len h = ap (body_for h) k in
+    let says : record_in h 17 (take (witness_body_len h) (drop head_len bs)) ≡ x = ap (λ m. record_in h m (take (witness_body_len h) (drop head_len bs))) (sym k) ∙ ap (λ m. record_in h (kind_in bs) (take m (drop head_len bs))) (sym (c.body ∙ f)) ∙ c.says in
     let is : x ≡ witness (witness_of h bs) = sym says ∙ body_is h bs in
     let r = ranges h (witness_of h bs) (ap (in_range h) (sym is) ∙ c.range) in
     record {

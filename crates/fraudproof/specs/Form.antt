@@ -3,7 +3,7 @@ use Rattle.std.specs.Prelude.{◌≡◌, ℕ, zero, suc, ◌+◌, ◌-◌, ◌*�
 use Rattle.octets.specs.Outcome.{Refused, plain}
 use Rattle.hash.specs.Digests.{digest_len}
 use Rattle.header.specs.Fields.{Fields}
-use Rattle.header.specs.Sizes.{width, head_len, claim_body, data_path_len}
+use Rattle.header.specs.Sizes.{width, head_len, claim_body_len, data_path_len}
 use Rattle.wire.specs.Values as values
 use Rattle.wire.specs.Values.{Rec, header, roots, group, share, end, claim, witness}
 use Rattle.wire.specs.Parts.{Spot, after}
@@ -80,4 +80,4 @@ pub record Formed (h : Fields) (p : Proof) : Type 0 where
 pub record Lies (h : Fields) (b : Spot) (p : Proof) : Type 0 where
   pub root_at : p.root.ref_ptr ≡ after b (head_len + 3)
   pub path_at : p.path.ref_ptr ≡ after b (head_len + 3 + digest_len)
-  pub witnesses_at : p.witnesses.ref_ptr ≡ after b (head_len + claim_body h)
+  pub witnesses_at : p.witnesses.ref_ptr ≡ after b (head_len + claim_body_len h)

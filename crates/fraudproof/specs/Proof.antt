@@ -2,7 +2,7 @@
 use Rattle.std.specs.Prelude.{ℕ, ◌+◌, ◌*◌, List, map, take, drop, slice_index}
 use Rattle.std.specs.List.{range_with_len}
 use Rattle.header.specs.Fields.{Fields}
-use Rattle.header.specs.Sizes.{head_len, witness_body, path_len}
+use Rattle.header.specs.Sizes.{head_len, witness_body_len, path_len}
 use Rattle.wire.specs.Values.{Claim, Witness}
 use Rattle.fraudproof.specs.declared.proof.Proof.{Proof}
 
@@ -12,7 +12,7 @@ pub record Case : Type 0 where
 
 -- the bytes of a witness record
 abbrev pub witness_len : Fields → ℕ
-witness_len h = head_len + witness_body h
+witness_len h = head_len + witness_body_len h
 
 -- a witness by the bytes of its record: behind the head its place, its axis, its share and its path
 unfoldable pub witness_of : Fields → List ℕ → Witness

@@ -68,28 +68,28 @@ abbrev pub head_len : ℕ
 head_len = 6
 
 -- k, s, two kinds, the data root
-abbrev pub header_body : ℕ
-header_body = 6 + digest_len
+abbrev pub header_body_len : ℕ
+header_body_len = 6 + digest_len
 
 -- axis, index
-abbrev pub group_body : ℕ
-group_body = 3
+abbrev pub group_body_len : ℕ
+group_body_len = 3
 
 -- place, share, path
-abbrev pub share_body : Fields → ℕ
-share_body h = 2 + h.s + path_len h
+abbrev pub share_body_len : Fields → ℕ
+share_body_len h = 2 + h.s + path_len h
 
 -- axis, index, root, path in the data tree
-abbrev pub claim_body : Fields → ℕ
-claim_body h = 3 + digest_len + data_path_len h
+abbrev pub claim_body_len : Fields → ℕ
+claim_body_len h = 3 + digest_len + data_path_len h
 
 -- place, proving axis, share, path
-abbrev pub witness_body : Fields → ℕ
-witness_body h = 3 + h.s + path_len h
+abbrev pub witness_body_len : Fields → ℕ
+witness_body_len h = 3 + h.s + path_len h
 
 -- a claim and k witnesses
 abbrev pub proof_len : Fields → ℕ
-proof_len h = head_len + claim_body h + h.k * (head_len + witness_body h)
+proof_len h = head_len + claim_body_len h + h.k * (head_len + witness_body_len h)
 
 -- the longest string that is hashed: a lead byte and the largest share
 abbrev pub string_len : ℕ
@@ -113,11 +113,11 @@ lengths_of h = record {
   axis_tree = axis_tree_len h;
   data_tree = data_tree_len h;
   image = image_len h;
-  header_body = header_body;
-  group_body = group_body;
-  share_body = share_body h;
-  claim_body = claim_body h;
-  witness_body = witness_body h;
+  header_body = header_body_len;
+  group_body = group_body_len;
+  share_body = share_body_len h;
+  claim_body = claim_body_len h;
+  witness_body = witness_body_len h;
   proof = proof_len h;
   string = string_len;
 }

@@ -3,7 +3,7 @@ use Rattle.std.proofs.Common.{ℕ, ◌≤◌, arith}
 use Rattle.std.proofs.lemmas.Bool.Decides.{nat_tests}
 use Rattle.erasure.proofs.Bounds.{width_most, size_most}
 use Rattle.header.specs.Fields.{Fields}
-use Rattle.header.specs.Sizes.{roots_len, share_body, claim_body, witness_body}
+use Rattle.header.specs.Sizes.{roots_len, share_body_len, claim_body_len, witness_body_len}
 use Rattle.header.proofs.Measures.{Allowed, depth_most}
 use Rattle.wire.specs.Reading.{body_for}
 
@@ -14,7 +14,7 @@ body_short h a kind =
     let k = width_most h.k a.wide in
     let s = size_most h.s a.sized in
     let p1 : roots_len h ≤ 5000 = omega arith in
-    let p2 : share_body h ≤ 5000 = omega arith in
-    let p3 : claim_body h ≤ 5000 = omega arith in
-    let p4 : witness_body h ≤ 5000 = omega arith in
+    let p2 : share_body_len h ≤ 5000 = omega arith in
+    let p3 : claim_body_len h ≤ 5000 = omega arith in
+    let p4 : witness_body_len h ≤ 5000 = omega arith in
     grind (arith, nat_tests)

@@ -9,7 +9,7 @@ use Rattle.octets.specs.Outcome.{Refused, plain}
 use Rattle.erasure.proofs.Bounds.{width_most}
 use Rattle.header.specs.Fields.{Fields}
 use Rattle.erasure.specs.Limits.{ok_width, ok_size}
-use Rattle.header.specs.Sizes.{head_len, path_len, data_path_len, roots_len, share_body, claim_body, witness_body}
+use Rattle.header.specs.Sizes.{head_len, path_len, data_path_len, roots_len, share_body_len, claim_body_len, witness_body_len}
 use Rattle.header.proofs.Measures.{Allowed}
 use Rattle.wire.specs.declared.due.Due.{Due}
 use Rattle.wire.specs.Refusals.{refused_at}
@@ -181,7 +181,7 @@ like_group h (a ∷ b ∷ c ∷ []) q n =
     record { kind_is = refl; body_is = cc; fits = refl }
 like_group h (a ∷ b ∷ c ∷ d ∷ rest) q n = absurd (omega arith)
 
-like_share : (h : Fields) (body : List ℕ) → All (λ b. b < 256) body → length body ≡ share_body h → Like h (share_in h body) 4 body
+like_share : (h : Fields) (body : List ℕ) → All (λ b. b < 256) body → length body ≡ share_body_len h → Like h (share_in h body) 4 body
 unfolding parts_fit
 like_share h [] q n = absurd (omega arith)
 like_share h (a ∷ []) q n = absurd (omega arith)
@@ -193,7 +193,7 @@ like_share h (a ∷ b ∷ rest) q n =
     let m2 : length (drop h.s rest) ≡ path_len h = simp length-drop (omega arith) in
     record { kind_is = refl; body_is = cc; fits = rw (m1, m2) (grind (arith, nat_tests)) }
 
-like_claim : (h : Fields) (body : List ℕ) → All (λ b. b < 256) body → length body ≡ claim_body h → Like h (claim_in body) 16 body
+like_claim : (h : Fields) (body : List ℕ) → All (λ b. b < 256) body → length body ≡ claim_body_len h → Like h (claim_in body) 16 body
 unfolding parts_fit
 like_claim h [] q n = absurd (omega arith)
 like_claim h (a ∷ []) q n = absurd (omega arith)
@@ -206,7 +206,7 @@ like_claim h (a ∷ b ∷ c ∷ rest) q n =
     let m2 : length (drop 32 rest) ≡ data_path_len h = simp length-drop (omega arith) in
     record { kind_is = refl; body_is = cc; fits = rw (m1, m2) (grind (arith, nat_tests)) }
 
-like_witness : (h : Fields) (body : List ℕ) → All (λ b. b < 256) body → length body ≡ witness_body h → Like h (witness_in h body) 17 body
+like_witness : (h : Fields) (body : List ℕ) → All (λ b. b < 256) body → length body ≡ witness_body_len h → Like h (witness_in h body) 17 body
 unfolding parts_fit
 like_witness h [] q n = absurd (omega arith)
 like_witness h (a ∷ []) q n = absurd (omega arith)

@@ -4,7 +4,7 @@ use Rattle.octets.specs.Outcome.{Refused, plain}
 use Rattle.hash.specs.Digests.{digest_len}
 use Rattle.erasure.specs.Limits.{ok_width, ok_size}
 use Rattle.header.specs.Fields.{Fields}
-use Rattle.header.specs.Sizes.{width, roots_len, head_len, header_body, group_body, share_body, claim_body, witness_body}
+use Rattle.header.specs.Sizes.{width, roots_len, head_len, header_body_len, group_body_len, share_body_len, claim_body_len, witness_body_len}
 use Rattle.wire.specs.Refusals.{refused_at}
 use Rattle.wire.specs.Values.{Rec, header, roots, group, share, end, claim, witness}
 use Rattle.wire.specs.declared.due.Due.{Due}
@@ -42,8 +42,8 @@ is_due Anything kind = true
 -- the length of the body of a known kind
 unfoldable pub body_for : Fields → ℕ → ℕ
 body_for h kind =
-    cond (kind == 1) header_body (cond (kind == 2) (roots_len h) (cond (kind == 3) group_body (cond (kind == 4) (share_body h)
-    (cond (kind == 5) 0 (cond (kind == 16) (claim_body h) (witness_body h))))))
+    cond (kind == 1) header_body_len (cond (kind == 2) (roots_len h) (cond (kind == 3) group_body_len (cond (kind == 4) (share_body_len h)
+    (cond (kind == 5) 0 (cond (kind == 16) (claim_body_len h) (witness_body_len h))))))
 
 -- what a body of that length says, by kind
 abbrev pub header_in : List ℕ → Rec

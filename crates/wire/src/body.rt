@@ -2,7 +2,7 @@
 ghost use Rattle.std.specs.Prelude.{◌≡◌, ◌≤◌, ◌+◌, ◌*◌, true, length};
 ghost use Rattle.hash.specs.Digests.{digest_len};
 ghost use Rattle.header.specs.Fields.{Fields, fields_of};
-ghost use Rattle.header.specs.Sizes.{claim_body, group_body, header_body, share_body, witness_body};
+ghost use Rattle.header.specs.Sizes.{claim_body_len, group_body_len, header_body_len, share_body_len, witness_body_len};
 ghost use Rattle.wire.specs.Parts.{Begins, value_of};
 ghost use Rattle.wire.specs.Kinds.{code_of};
 ghost use Rattle.wire.specs.Reading.{body_for, claim_in, group_in, header_in, record_in, share_in, witness_in};
@@ -13,7 +13,7 @@ use hash::limits::DIGEST_LEN;
 use header::header::Header;
 
 fn header_in<'a>(body: &'a [u8]) -> Record<'a>
-    requires { length body.now ≡ header_body }
+    requires { length body.now ≡ header_body_len }
     ensures value { value_of result ≡ header_in body.now }
     ensures place { (h : Fields) → Begins h body.entry.ref_ptr result }
 {
@@ -27,7 +27,7 @@ fn header_in<'a>(body: &'a [u8]) -> Record<'a>
 }
 
 fn group_in<'a>(body: &'a [u8]) -> Record<'a>
-    requires { length body.now ≡ group_body }
+    requires { length body.now ≡ group_body_len }
     ensures value { value_of result ≡ group_in body.now }
     ensures place { (h : Fields) → Begins h body.entry.ref_ptr result }
 {
@@ -38,7 +38,7 @@ fn group_in<'a>(body: &'a [u8]) -> Record<'a>
 }
 
 fn share_in<'a>(h: &Header, body: &'a [u8]) -> Record<'a>
-    requires { length body.now ≡ share_body (fields_of h.now) }
+    requires { length body.now ≡ share_body_len (fields_of h.now) }
     ensures value { value_of result ≡ share_in (fields_of h.now) body.now }
     ensures place { Begins (fields_of h.now) body.entry.ref_ptr result }
 {
@@ -66,7 +66,7 @@ fn claim_in<'a>(body: &'a [u8]) -> Record<'a>
 
 #[tactic(auto, using(crate::proofs::Slices::first_part, crate::proofs::Slices::second_part))]
 fn witness_in<'a>(h: &Header, body: &'a [u8]) -> Record<'a>
-    requires { length body.now ≡ witness_body (fields_of h.now) }
+    requires { length body.now ≡ witness_body_len (fields_of h.now) }
     ensures value { value_of result ≡ witness_in (fields_of h.now) body.now }
     ensures place { Begins (fields_of h.now) body.entry.ref_ptr result }
 {

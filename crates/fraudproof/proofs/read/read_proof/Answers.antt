@@ -2,7 +2,7 @@ use Rattle.std.proofs.Common.{◌≡◌, ◌+◌, map, length, Ok, sym, ap, ◌�
 use Rattle.std.specs.List.{range_with_len}
 use Rattle.std.proofs.lemmas.Result.{err_from_is_err_and}
 use Rattle.header.specs.Fields.{fields_of}
-use Rattle.header.specs.Sizes.{claim_body}
+use Rattle.header.specs.Sizes.{claim_body_len}
 use Rattle.wire.specs.Parts.{value_of, Begins, after}
 use Rattle.wire.specs.Readers.{rest_of, spot_of}
 use Rattle.wire.specs.Values as values
@@ -51,7 +51,7 @@ returns c =
     let r = claim_read h 0 b.now _ _ v (sym said) (ap value_of c.in-Claim.is) in
     let begins = subst (Begins h (after (spot_of old) 6)) c.in-Claim.is c.in_ok-axis.ensures.moved.begins in
     let spot = front_spot old b front.bytes front.place in
-    let at : now.at ≡ 6 + claim_body h = omega (arith, place_is now b same, r.behind) in
+    let at : now.at ≡ 6 + claim_body_len h = omega (arith, place_is now b same, r.behind) in
     record {
       answer = ap (λ xs. Ok (record { claim = v; witnesses = map (witness_at h xs) (range_with_len 0 h.k) })) rest.value
           ∙ with_claim_lem h b.now _ (rest_of now) said v (ap value_of c.in-Claim.is) _ (w.answer ∙ ap (λ n. witnesses_from h h.k n (rest_of now)) (place_is now b same));
