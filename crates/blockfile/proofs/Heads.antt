@@ -100,7 +100,7 @@ unfolding is_due body_for record_in
 header_read bs x rest g p is =
     let c = cut_at no_block due.Header 0 bs x rest p in
     let k : kind_in bs ≡ 1 = eqb-true _ 1 c.isdue in
-    let f : body_for no_block (kind_in bs) ≡ header_body = ap (body_for no_block) k in
+    let f : body_for no_block (kind_in bs) ≡ header_body_len = ap (body_for no_block) k in
     let q = behind_is no_block due.Header bs x rest c in
     let b : List ℕ = take (body_len bs) (drop head_len bs) in
     let long : length b ≡ header_body = length-take-le (body_len bs) (drop head_len bs) c.held ∙ c.body ∙ f in
