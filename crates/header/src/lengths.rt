@@ -1,5 +1,17 @@
 ghost use Rattle.std.specs.Prelude.{◌≡◌, ◌&&◌, ◌==◌};
 
+// The cells of the largest square.
+pub const MOST_CELLS: usize = 4096;
+
+// The longest share.
+pub const SHARE_ROOM: usize = 512;
+
+// The longest path of an evidence.
+pub const PATH_ROOM: usize = 416;
+
+// The roots of the rows and the columns of the largest square.
+pub const ROOTS_ROOM: usize = 4096;
+
 // The lengths of everything that belongs to a block, in bytes but for the first four.
 #[derive(Clone, Copy)]
 pub struct Lengths {

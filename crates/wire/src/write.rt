@@ -15,6 +15,9 @@ use crate::record::Record;
 use crate::refusal::WriteRefusal;
 use header::header::Header;
 
+// The bytes before a body: its length and its kind.
+pub const HEAD_LEN: usize = 6;
+
 impl<'a> Record<'a> {
     fn kind(&self) -> Kind
         ensures { code_of result ≡ kind_of (value_of self.now) }
@@ -35,12 +38,12 @@ impl<'a> Record<'a> {
 fn target_fits(h: &Header, item: &Record, room: usize) -> bool
     ensures { result ≡ target_fits (fields_of h.now) (value_of item.now) room }
 {
-    let whole = 6 + item.kind().body_len(h);
+    let whole = HEAD_LEN + item.kind().body_len(h);
     parts_fit(h, item) && room == whole
 }
 
-// The six bytes before a body.
-fn head(len: u32, kind: Kind) -> [u8; 6]
+// The head of a record.
+fn head(len: u32, kind: Kind) -> [u8; HEAD_LEN]
     ensures { result ≡ head_of len (code_of kind) }
 {
     let [l0, l1, l2, l3] = len.to_le_bytes();
@@ -54,7 +57,7 @@ fn put_parts(out: &mut [u8], kind: Kind, numbers: &[u8], first: &[u8], second: &
     ensures { out.new ≡ framed (code_of kind) (numbers.now ++ (first.now ++ second.now)) }
 {
     let len = numbers.len() + first.len() + second.len();
-    let (front, body) = out.split_at_mut(6);
+    let (front, body) = out.split_at_mut(HEAD_LEN);
     front.copy_from_slice(&head(len as u32, kind));
     let (values, parts) = body.split_at_mut(numbers.len());
     values.copy_from_slice(numbers);
