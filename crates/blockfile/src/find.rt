@@ -12,6 +12,7 @@ use crate::found::Found;
 use crate::index::Place;
 use header::cell::Cell;
 use header::header::Header;
+use wire::write::HEAD_LEN;
 
 impl Place {
     // The evidence in the share record there: behind the head and the place number a share, and then a path.
@@ -21,7 +22,7 @@ impl Place {
         ensures place { (result.share.ref_ptr ≡ after bytes.entry.ref_ptr (self.at + 8)) × (result.path.ref_ptr ≡ after bytes.entry.ref_ptr (self.at + (8 + (fields_of h.now).s))) }
     {
         let n = h.lengths();
-        let share = self.at as usize + 8;
+        let share = self.at as usize + HEAD_LEN + 2;
         let path = share + n.share;
         Found {
             axis: self.axis,

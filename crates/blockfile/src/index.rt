@@ -3,9 +3,7 @@ ghost use Rattle.blockfile.specs.Index.{entry_of, marked, no_places};
 ghost use Rattle.std.specs.Prelude.{◌≡◌, ◌<◌};
 
 use header::cell::Axis;
-
-// The most cells of a square.
-pub const CELLS: usize = 4096;
+use header::lengths::MOST_CELLS;
 
 // A share record: the place of the file where it begins, and the axis of its group.
 #[derive(Clone, Copy)]
@@ -18,8 +16,8 @@ pub struct Place {
 // bytes; one of `Option<Place>` would take 49,152, and an index lies in the frame of the call that opens a file.
 #[derive(Clone, Copy)]
 pub struct Index {
-    at: [u32; CELLS],
-    axis: [Axis; CELLS],
+    at: [u32; MOST_CELLS],
+    axis: [Axis; MOST_CELLS],
 }
 
 const _: () = prove!(size_of::<Index>() == 20480);
@@ -30,8 +28,8 @@ impl Index {
         ensures { result ≡ no_places }
     {
         Index {
-            at: [0; CELLS],
-            axis: [Axis::Row; CELLS],
+            at: [0; MOST_CELLS],
+            axis: [Axis::Row; MOST_CELLS],
         }
     }
 

@@ -7,10 +7,11 @@ ghost use Rattle.store.specs.Refusals.{told};
 ghost use Rattle.store.specs.Showing.{Shows, Untouched, asked};
 
 use crate::keeping::{find, keep, one_more};
-use crate::kept::{Kept, PATH_ROOM, PLACES, SHARE_ROOM};
+use crate::kept::{Kept, PLACES};
 use hash::digest::Hash;
 use header::cell::{Axis, Cell};
 use header::header::Header;
+use header::lengths::{PATH_ROOM, SHARE_ROOM};
 use std::marker::PhantomData;
 use store::refusal::StoreRefusal;
 use store::store::Store;

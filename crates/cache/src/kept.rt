@@ -1,9 +1,6 @@
 // An answer that a cache keeps.
 use header::cell::{Axis, Cell};
-pub use store::sweep::PATH_ROOM;
-
-// The longest share.
-pub const SHARE_ROOM: usize = 512;
+use header::lengths::{PATH_ROOM, SHARE_ROOM};
 
 // How many answers a cache keeps.
 pub(crate) const PLACES: usize = 8;

@@ -14,10 +14,8 @@ use crate::taking::take_evidence;
 use hash::digest::Hash;
 use header::cell::{Axis, Cell};
 use header::header::Header;
+use header::lengths::PATH_ROOM;
 use octets::misfit::Misfit;
-
-// The longest path of an evidence.
-pub const PATH_ROOM: usize = 416;
 
 // Takes the evidence at a cell. Where there is none, the share is zeros.
 fn hold<H: Hash, S: Store>(

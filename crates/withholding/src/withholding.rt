@@ -9,12 +9,10 @@ ghost use Rattle.store.specs.Showing.{Shows, Untouched, asked};
 ghost use Rattle.withholding.specs.Masked.{all_marks, hides, hiding, masked, withhold_outcome};
 
 use header::cell::{Axis, Cell};
+use header::lengths::MOST_CELLS;
 use store::question::shape_of;
 use store::refusal::StoreRefusal;
 use store::store::Store;
-
-// The cells of the largest square.
-const MOST_CELLS: usize = 4096;
 
 // A store below, and for each number of a cell whether the cell is hidden.
 #[derive(Drop)]
