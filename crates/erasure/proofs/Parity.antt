@@ -1,15 +1,15 @@
 -- The shares behind the data.
-use Rattle.std.proofs.Common.{◌≡◌, ℕ, ◌+◌, ◌-◌, ◌*◌, ◌/◌, ◌%◌, ◌<◌, ◌≤◌, true, cond, ◌&&◌, eqb, ltb, leb, List, ◌++◌, length, get_or, take, drop, sym, ap, ◌∙◌, subst, ap₂, inl, inr, mod-lt, arith, lit<, length-append, length-drop, length-take}
+use Rattle.std.proofs.Common.{◌≡◌, ℕ, ◌+◌, ◌-◌, ◌*◌, ◌/◌, ◌%◌, ◌<◌, ◌≤◌, true, cond, ◌&&◌, eqb, leb, List, ◌++◌, length, get_or, take, drop, sym, ap, ◌∙◌, subst, ap₂, inl, inr, mod-lt, arith, lit<, length-append, length-drop, length-take}
 use borrow.Rule.Slice.PartMut.{put_mid}
-use Rattle.std.proofs.lemmas.Nat.{div-mul-add, mod-mul-add, mul-le}
-use Rattle.std.proofs.lemmas.List.{take-append-drop, take_at, get_or-take}
-use Rattle.std.proofs.lemmas.Bool.{and_parts, and_from, eqb-true, eq-eqb, leb-true, le-leb, lt-ltb, le-ltb, cases_lt, cond-true, cond-false}
+use Rattle.std.proofs.lemmas.Nat.{div-mul-add, mod-mul-add}
+use Rattle.std.proofs.lemmas.List.{take-append-drop, take_at, get_or-take, get_or_append_left, get_or_past}
+use Rattle.std.proofs.lemmas.Bool.{and_parts, and_from, eqb-true, eq-eqb, leb-true, le-leb, cases_lt, cond-true}
 use Rattle.octets.specs.Shares.{share, byte_of}
-use Rattle.octets.proofs.Shares.{same_from_bytes, byte_take, share_read, share_length, share_byte_lem}
+use Rattle.octets.proofs.Shares.{same_from_bytes, share_read, share_length, share_byte_lem}
 use Rattle.octets.proofs.Cells.{both_halves, byte_drop, byte_cell, by_cells, cell_below, put_rest}
 use Rattle.codes.specs.Code.{Table, Weight, Places, FirstLaw, WeightLaw, Meets, applied, symbol}
 use Rattle.codes.specs.Words.{at, codeword}
-use Rattle.codes.proofs.Words.{applied_row, applied_data, applied_low, codeword_length, codeword_from_bytes, codeword_byte, codeword_front}
+use Rattle.codes.proofs.Words.{applied_row, applied_data, applied_low, codeword_length, codeword_byte, codeword_front}
 use Rattle.erasure.specs.Limits.{ok_width}
 use Rattle.erasure.specs.Calls.{parity_fits, complete_fits}
 use Rattle.erasure.specs.Weights.{CodeRows, weight_table}
@@ -99,6 +99,18 @@ rest_from_bytes T k s xs out long h =
     (λ i hi b hb. h i hi b hb
     ∙ sym (byte_drop k s i b (codeword T k s xs) ∙ codeword_byte T k s (k + i) b xs (omega arith) hb))
 
+-- the sums of the shares by the second half of the code's rows
+pub rest_from_rows : (T : Table) (k s : ℕ) (rows xs out : List ℕ) → CodeRows T k rows → length out ≡ k * s
+    → ((i : ℕ) → i < k → (b : ℕ) → b < s
+    → byte_of s i b out ≡ applied k (λ j. byte_of k i j (take (length rows - k * k) (drop (k * k) rows))) (λ j. byte_of s j b xs))
+    → out ≡ drop (k * s) (codeword T k s xs)
+rest_from_rows T k s rows xs out are long h =
+    rest_from_bytes T k s xs out long
+    (λ i hi b hb. h i hi b hb
+    ∙ applied_row k (λ j. byte_of k i j (take (length rows - k * k) (drop (k * k) rows))) (λ j. byte_of k (k + i) j rows) (λ j. byte_of s j b xs)
+    (λ j hj. half_byte k i j rows are.long hi hj)
+    ∙ are.sums (k + i) (omega arith) (λ j. byte_of s j b xs))
+
 -- the data and what stands behind them
 pub codeword_halves : (T : Table) → FirstLaw T → (k s : ℕ) → k ≤ 128 → (xs : List ℕ) → length xs ≡ k * s → ((n : ℕ) → get_or xs n 0 < 256)
     → xs ++ drop (k * s) (codeword T k s xs) ≡ codeword T k s xs
@@ -157,59 +169,22 @@ complete_fits_lem k w s n wide some few sized e =
     (and_from (leb w 64) (leb s 512 && eqb n (2 * k * (w * s))) (le-leb w 64 few)
     (and_from (leb s 512) (eqb n (2 * k * (w * s))) (le-leb s 512 sized) (eq-eqb n (2 * k * (w * s)) e))))
 
--- the same by cells, shares being of w cells of s bytes: what is said of each cell's bytes, said of each share's
-pub by_share_bytes : (k w s : ℕ) (R : ℕ → ℕ → ℕ) (old new : List ℕ) → length new ≡ 2 * k * (w * s)
-    → ((m : ℕ) → m < 2 * k * w → (b : ℕ) → b < s
-    → byte_of s m b new ≡ cond (ltb m (k * w)) (byte_of s m b old) (applied k (R (m / w)) (λ j. byte_of s (j * w + m % w) b old)))
-    → (i : ℕ) → i < 2 * k → (x : ℕ) → x < w * s
-    → byte_of (w * s) i x new ≡ cond (ltb i k) (byte_of (w * s) i x old) (applied k (R i) (λ j. byte_of (w * s) j x old))
-by_share_bytes k w s R old new long h i hi =
-    by_cells w s (λ x. byte_of (w * s) i x new ≡ cond (ltb i k) (byte_of (w * s) i x old) (applied k (R i) (λ j. byte_of (w * s) j x old))) at
-  where
-    at : (c b : ℕ) → c < w → b < s
-        → byte_of (w * s) i (c * s + b) new
-        ≡ cond (ltb i k) (byte_of (w * s) i (c * s + b) old) (applied k (R i) (λ j. byte_of (w * s) j (c * s + b) old))
-    at c b hc hb =
-        let here : byte_of (w * s) i (c * s + b) new
-        ≡ cond (ltb (i * w + c) (k * w)) (byte_of s (i * w + c) b old) (applied k (R ((i * w + c) / w)) (λ j. byte_of s (j * w + (i * w + c) % w) b old)) =
-        byte_cell w s i c b new ∙ h (i * w + c) (cell_below (2 * k) w i c hi hc) b hb in
-        elim (cases_lt i k) [
-          | inl l ↦
-              here
-              ∙ cond-true (ltb (i * w + c) (k * w)) (byte_of s (i * w + c) b old)
-              (applied k (R ((i * w + c) / w)) (λ j. byte_of s (j * w + (i * w + c) % w) b old)) (lt-ltb (i * w + c) (k * w) (cell_below k w i c l hc))
-              ∙ sym (byte_cell w s i c b old)
-              ∙ sym (cond-true (ltb i k) (byte_of (w * s) i (c * s + b) old) (applied k (R i) (λ j. byte_of (w * s) j (c * s + b) old)) (lt-ltb i k l))
-          | inr l ↦
-              here
-              ∙ cond-false (ltb (i * w + c) (k * w)) (byte_of s (i * w + c) b old)
-              (applied k (R ((i * w + c) / w)) (λ j. byte_of s (j * w + (i * w + c) % w) b old))
-              (le-ltb (i * w + c) (k * w) (let t : k * w ≤ i * w = mul-le k w i w l (omega arith) in omega arith))
-              ∙ ap (λ (r : ℕ). applied k (R r) (λ j. byte_of s (j * w + (i * w + c) % w) b old)) (div-mul-add i w c hc)
-              ∙ applied_data k (R i) (λ j. byte_of s (j * w + (i * w + c) % w) b old) (λ j. byte_of (w * s) j (c * s + b) old)
-              (λ j hj. ap (λ (r : ℕ). byte_of s (j * w + r) b old) (mod-mul-add i w c hc) ∙ sym (byte_cell w s j c b old))
-              ∙ sym (cond-false (ltb i k) (byte_of (w * s) i (c * s + b) old) (applied k (R i) (λ j. byte_of (w * s) j (c * s + b) old)) (le-ltb i k l))
-        ]
+-- the front of bytes is bytes
+pub front_small : (xs ys : List ℕ) → ((n : ℕ) → get_or (xs ++ ys) n 0 < 256) → (n : ℕ) → get_or xs n 0 < 256
+front_small xs ys small n =
+    elim (cases_lt n (length xs)) [
+      | inl l ↦ subst (λ (x : ℕ). x < 256) (get_or_append_left xs ys 0 n l) (small n)
+      | inr l ↦ subst (λ (x : ℕ). x < 256) (sym (get_or_past xs n 0 l)) (lit< tt)
+    ]
 
--- the data as they were, and the shares behind them by the rows of the code
-pub completed : (T : Table) → FirstLaw T → (k s : ℕ) → k ≤ 128 → (R : ℕ → ℕ → ℕ) (old new : List ℕ) → length new ≡ 2 * k * s → ((n : ℕ) → get_or new n 0 < 256)
-    → ((i : ℕ) → i < 2 * k → (d : ℕ → ℕ) → applied k (R i) d ≡ symbol T k d i)
-    → ((i : ℕ) → i < 2 * k → (b : ℕ) → b < s
-    → byte_of s i b new ≡ cond (ltb i k) (byte_of s i b old) (applied k (R i) (λ j. byte_of s j b old)))
-    → new ≡ codeword T k s (take (k * s) old)
-completed T first k s hk R old new long small rows h =
-    codeword_from_bytes T k s (take (k * s) old) new long
-    (λ i hi b hb.
-    at i hi b hb ∙ sym (applied_data k (T k i) (λ j. byte_of s j b (take (k * s) old)) (λ j. byte_of s j b old) (λ j hj. byte_take k s j b old hj hb)))
-  where
-    at : (i : ℕ) → i < 2 * k → (b : ℕ) → b < s → byte_of s i b new ≡ symbol T k (λ j. byte_of s j b old) i
-    at i hi b hb =
-        elim (cases_lt i k) [
-          | inl l ↦
-              let e : byte_of s i b new ≡ byte_of s i b old =
-              h i hi b hb ∙ cond-true (ltb i k) (byte_of s i b old) (applied k (R i) (λ j. byte_of s j b old)) (lt-ltb i k l) in
-              e ∙ sym (first k hk (λ j. byte_of s j b old) i l (subst (λ (x : ℕ). x < 256) e (small (i * s + b))))
-          | inr l ↦
-              h i hi b hb ∙ cond-false (ltb i k) (byte_of s i b old) (applied k (R i) (λ j. byte_of s j b old)) (le-ltb i k l)
-              ∙ rows i hi (λ j. byte_of s j b old)
-        ]
+-- by cells, shares being of w cells of s bytes: what is said of each cell's bytes, said of each share's
+pub by_share_bytes : (k w s : ℕ) (R : ℕ → ℕ → ℕ) (xs out : List ℕ)
+    → ((m : ℕ) → m < k * w → (b : ℕ) → b < s → byte_of s m b out ≡ applied k (R (m / w)) (λ j. byte_of s (j * w + m % w) b xs))
+    → (i : ℕ) → i < k → (x : ℕ) → x < w * s → byte_of (w * s) i x out ≡ applied k (R i) (λ j. byte_of (w * s) j x xs)
+by_share_bytes k w s R xs out h i hi =
+    by_cells w s (λ x. byte_of (w * s) i x out ≡ applied k (R i) (λ j. byte_of (w * s) j x xs))
+    (λ c b hc hb.
+    byte_cell w s i c b out ∙ h (i * w + c) (cell_below k w i c hi hc) b hb
+    ∙ ap (λ (r : ℕ). applied k (R r) (λ j. byte_of s (j * w + (i * w + c) % w) b xs)) (div-mul-add i w c hc)
+    ∙ applied_data k (R i) (λ j. byte_of s (j * w + (i * w + c) % w) b xs) (λ j. byte_of (w * s) j (c * s + b) xs)
+    (λ j hj. ap (λ (r : ℕ). byte_of s (j * w + r) b xs) (mod-mul-add i w c hc) ∙ sym (byte_cell w s j c b xs)))

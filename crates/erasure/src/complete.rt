@@ -1,5 +1,5 @@
 // Encoding in place: a buffer that begins with the data becomes their codeword.
-ghost use Rattle.std.specs.Prelude.{◌≡◌, ℕ, ◌+◌, ◌*◌, ◌/◌, ◌%◌, ◌<◌, ◌≤◌, true, length, take, if◌then◌else◌, nat_lt, slice_index};
+ghost use Rattle.std.specs.Prelude.{◌≡◌, ℕ, ◌+◌, ◌*◌, ◌/◌, ◌%◌, ◌<◌, ◌≤◌, length, take, if◌then◌else◌};
 ghost use Rattle.octets.specs.Shares.{byte_of};
 ghost use Rattle.codes.specs.Code.{applied};
 ghost use Rattle.codes.specs.Words.{codeword};
@@ -13,9 +13,6 @@ use crate::limits::ok_width;
 use crate::table::{TABLE_ROOM, code_rows};
 use octets::misfit::Misfit;
 
-// The largest cell.
-const CELL_ROOM: usize = 512;
-
 // Whether k shares can be encoded in place, and n bytes are 2k shares of w cells of s bytes.
 fn complete_fits(k: usize, w: usize, s: usize, n: usize) -> bool
     ensures { result ≡ complete_fits k w s n }
@@ -26,23 +23,18 @@ fn complete_fits(k: usize, w: usize, s: usize, n: usize) -> bool
     1 <= w && w <= 64 && s <= 512 && n == 2 * k * (w * s)
 }
 
-// Each share from k on becomes the sum of the first k by its row of the table, which has k columns. Shares are worked out cell by cell
-// in `sum`, so that no more than one cell is copied.
-fn apply_behind(rows: &[u8], k: usize, w: usize, s: usize, word: &mut [u8], sum: &mut [u8])
+// Each share behind the data becomes the sum of the data's by its row of the table, which has k columns. Shares are worked out cell by
+// cell, so that what is added up stays near at hand.
+fn apply_behind(rows: &[u8], k: usize, w: usize, s: usize, data: &[u8], behind: &mut [u8])
     requires small { (k < 33) × ((0 < w) × ((w ≤ 64) × (s ≤ 512))) }
-    requires long { (length rows.now ≡ 2 * k * k) × ((length word.old ≡ 2 * k * w * s) × (length sum.old ≡ s)) }
-    ensures { (m : ℕ) → m < 2 * k * w → (b : ℕ) → b < s → byte_of s m b word.new ≡ (if nat_lt m (k * w) then byte_of s m b word.old else applied k (λ j. byte_of k (m / w) j rows.now) (λ j. byte_of s (j * w + m % w) b word.old)) }
+    requires long { (length rows.now ≡ k * k) × ((length data.now ≡ k * (w * s)) × (length behind.old ≡ k * w * s)) }
+    ensures { (m : ℕ) → m < k * w → (b : ℕ) → b < s → byte_of s m b behind.new ≡ applied k (λ j. byte_of k (m / w) j rows.now) (λ j. byte_of s (j * w + m % w) b data.now) }
 {
-    for m in k * w..2 * k * w {
+    // By number: of what is written through `chunks_exact_mut` a proof knows nothing.
+    for m in 0..k * w {
         let i = m / w;
-        combine(
-            &rows[i * k..i * k + k],
-            &word[0..k * (w * s)],
-            w * s,
-            m % w * s,
-            sum,
-        );
-        word[m * s..m * s + s].copy_from_slice(sum);
+        let row = &rows[i * k..i * k + k];
+        combine(row, data, w * s, m % w * s, &mut behind[m * s..m * s + s]);
     }
 }
 
@@ -57,7 +49,7 @@ pub fn complete<C: Code>(k: usize, w: usize, s: usize, word: &mut [u8]) -> Resul
     }
     let mut space = [0u8; TABLE_ROOM];
     let rows = code_rows::<C>(k, &mut space);
-    let mut cell = [0u8; CELL_ROOM];
-    apply_behind(rows, k, w, s, word, &mut cell[0..s]);
+    let (data, behind) = word.split_at_mut(word.len() / 2);
+    apply_behind(&rows[k * k..], k, w, s, data, behind);
     Ok(())
 }

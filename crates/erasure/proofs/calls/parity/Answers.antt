@@ -1,8 +1,6 @@
-use Rattle.std.proofs.Common.{ℕ, ◌+◌, ◌-◌, ◌*◌, cond, List, length, take, drop, sym, ap, ◌∙◌, arith}
-use Rattle.octets.specs.Shares.{byte_of}
+use Rattle.std.proofs.Common.{ℕ, ◌*◌, cond, List, length, drop, sym, ap, ◌∙◌}
 use Rattle.codes.specs.Words.{codeword}
-use Rattle.codes.proofs.Words.{applied_row}
-use Rattle.erasure.proofs.Parity.{parity_parts, half_long, half_byte, rest_from_bytes}
+use Rattle.erasure.proofs.Parity.{parity_parts, half_long, rest_from_rows}
 use Rattle.erasure.proofs.calls.parity.Goals as goal
 
 pub code_rows-rows-requires : goal.code_rows-rows-requires
@@ -21,9 +19,5 @@ returns-clause-rest g c =
     let rows : List ℕ = c.code_rows-rows.result.now in
     let e = c.if-not-parity_fits.ensures in
     let f = parity_parts k s (length xs) (length c.args.out.now) (sym e) in
-    rest_from_bytes g.C.Code.table k s xs c.apply_rows.new.out (c.apply_rows.auto.out ∙ f.into)
-    (λ i hi b hb. c.apply_rows.ensures i hi b hb
-    ∙ applied_row k (λ j. byte_of k i j (take (length rows - k * k) (drop (k * k) rows))) (λ j. byte_of k (k + i) j rows) (λ j. byte_of s j b xs)
-    (λ j hj. half_byte k i j rows c.code_rows-rows.ensures.long hi hj)
-    ∙ c.code_rows-rows.ensures.sums (k + i) (omega arith) (λ j. byte_of s j b xs))
+    rest_from_rows g.C.Code.table k s rows xs c.apply_rows.new.out c.code_rows-rows.ensures (c.apply_rows.auto.out ∙ f.into) c.apply_rows.ensures
     ∙ ap (λ t. cond t (drop (k * s) (codeword g.C.Code.table k s xs)) c.args.out.now) e

@@ -1,13 +1,10 @@
-use Rattle.std.proofs.Common.{◌≡◌, ℕ, ◌+◌, ◌*◌, ◌/◌, ◌%◌, ◌<◌, cond, ltb, length}
+use Rattle.std.proofs.Common.{◌≡◌, ℕ, ◌+◌, ◌*◌, ◌/◌, ◌%◌, ◌<◌}
 use Rattle.octets.specs.Shares.{byte_of}
 use Rattle.codes.specs.Code.{applied}
 use Rattle.erasure.proofs.complete.apply_behind.Given as goal
 
--- the cells that are done, the data among them
+-- the cells that are done
 abbrev pub invariant-loop-m : goal.invariant-loop-m
 invariant-loop-m l =
-    (length l.word ≡ length l.initial.word)
-    × ((m : ℕ) → m < l.m → (b : ℕ) → b < l.s
-    → byte_of l.s m b l.word
-    ≡ cond (ltb m (l.k * l.w)) (byte_of l.s m b l.initial.word)
-    (applied l.k (λ j. byte_of l.k (m / l.w) j l.rows) (λ j. byte_of l.s (j * l.w + m % l.w) b l.initial.word)))
+    (m : ℕ) → m < l.m → (b : ℕ) → b < l.s
+    → byte_of l.s m b l.behind ≡ applied l.k (λ j. byte_of l.k (m / l.w) j l.rows) (λ j. byte_of l.s (j * l.w + m % l.w) b l.data)
