@@ -1,10 +1,8 @@
 // Encoding and recovery. An encoding has the data at the first k places and works out the rest; a recovery writes the one codeword
 // that has given shares at given places.
-ghost use Rattle.std.specs.Prelude.{◌≡◌, ℕ, ◌+◌, ◌*◌, ◌<◌, true, List, length, drop, if◌then◌else◌, Ok, Err, ◌==◌, slice_index};
+ghost use Rattle.std.specs.Prelude.{◌≡◌, ◌*◌, ◌<◌, true, length, drop, if◌then◌else◌, Ok, Err, ◌==◌};
 ghost use Rattle.octets.specs.Outcome.{Refused, outcome};
-ghost use Rattle.octets.specs.Shares.{byte_of};
 ghost use Rattle.octets.specs.Written.{written};
-ghost use Rattle.codes.specs.Code.{symbol};
 ghost use Rattle.codes.specs.Words.{Through, codeword};
 ghost use Rattle.erasure.specs.Calls.{GivesBack, NoOther, encode_outcome, fitting, parity_fits, recover_outcome};
 ghost use Rattle.erasure.specs.Limits.{ok_width};

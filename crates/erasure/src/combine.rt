@@ -37,9 +37,9 @@ pub(crate) fn combine(row: &[u8], shares: &[u8], size: usize, from: usize, sum: 
     ensures { (b : ℕ) → b < length sum.old → slice_index sum.new b ≡ applied (length row.now) (at row.now) (λ j. byte_of size j (from + b) shares.now) }
 {
     sum.fill(0);
-    for done in 0..8usize {
+    for bit in (0..8).rev() {
         galois::bulk::double_share(sum);
-        add_selected(row, 7 - done, shares, size, from, sum);
+        add_selected(row, bit, shares, size, from, sum);
     }
 }
 

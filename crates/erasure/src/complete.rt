@@ -23,18 +23,18 @@ fn complete_fits(k: usize, w: usize, s: usize, n: usize) -> bool
     1 <= w && w <= 64 && s <= 512 && n == 2 * k * (w * s)
 }
 
-// Each share behind the data becomes the sum of the data's by its row of the table, which has k columns. Shares are worked out cell by
+// Each share behind the data becomes the sum of those in front by its row of the table, which has k columns. Shares are worked out cell by
 // cell, so that what is added up stays near at hand.
-fn apply_behind(rows: &[u8], k: usize, w: usize, s: usize, data: &[u8], behind: &mut [u8])
+fn apply_behind(rows: &[u8], k: usize, w: usize, s: usize, front: &[u8], behind: &mut [u8])
     requires small { (k < 33) × ((0 < w) × ((w ≤ 64) × (s ≤ 512))) }
-    requires long { (length rows.now ≡ k * k) × ((length data.now ≡ k * (w * s)) × (length behind.old ≡ k * w * s)) }
-    ensures { (m : ℕ) → m < k * w → (b : ℕ) → b < s → byte_of s m b behind.new ≡ applied k (λ j. byte_of k (m / w) j rows.now) (λ j. byte_of s (j * w + m % w) b data.now) }
+    requires long { (length rows.now ≡ k * k) × ((length front.now ≡ k * (w * s)) × (length behind.old ≡ k * w * s)) }
+    ensures { (m : ℕ) → m < k * w → (b : ℕ) → b < s → byte_of s m b behind.new ≡ applied k (λ j. byte_of k (m / w) j rows.now) (λ j. byte_of s (j * w + m % w) b front.now) }
 {
     // By number: of what is written through `chunks_exact_mut` a proof knows nothing.
     for m in 0..k * w {
         let i = m / w;
         let row = &rows[i * k..i * k + k];
-        combine(row, data, w * s, m % w * s, &mut behind[m * s..m * s + s]);
+        combine(row, front, w * s, m % w * s, &mut behind[m * s..m * s + s]);
     }
 }
 
@@ -49,7 +49,7 @@ pub fn complete<C: Code>(k: usize, w: usize, s: usize, word: &mut [u8]) -> Resul
     }
     let mut space = [0u8; TABLE_ROOM];
     let rows = code_rows::<C>(k, &mut space);
-    let (data, behind) = word.split_at_mut(word.len() / 2);
-    apply_behind(&rows[k * k..], k, w, s, data, behind);
+    let (front, behind) = word.split_at_mut(word.len() / 2);
+    apply_behind(&rows[k * k..], k, w, s, front, behind);
     Ok(())
 }

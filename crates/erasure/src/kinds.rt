@@ -1,5 +1,4 @@
 // The two codes.
-ghost use Rattle.std.specs.Prelude.{◌≡◌, ℕ};
 ghost use Rattle.codes.specs.Code.{cauchy, cauchy_scale, plain_scale, polynomial, scaled_weight};
 ghost use Rattle.codes.proofs.Polynomial as ProofsPolynomial;
 ghost use Rattle.codes.proofs.Cauchy as ProofsCauchy;

@@ -2,7 +2,7 @@
 // 1 / (i xor p), p being the share's place, so that the work is k times 2k and not k times that.
 ghost use Rattle.std.specs.Prelude.{◌≡◌, ℕ, ◌*◌, ◌<◌, ◌≤◌, length, slice_index};
 ghost use Rattle.octets.specs.Shares.{byte_of};
-ghost use Rattle.codes.specs.Code.{Places, scaled_weight};
+ghost use Rattle.codes.specs.Code.{scaled_weight};
 ghost use Rattle.codes.specs.Words.{at};
 ghost use Rattle.erasure.specs.Weights.{denominator, numerator, weighable, weighed, weight_by};
 ghost use Rattle.galois.specs.Field.{inv, mul};

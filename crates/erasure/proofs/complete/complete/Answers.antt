@@ -24,11 +24,11 @@ apply_behind-requires g c =
     let half : length c.args.word.now / 2 ≡ k * n = half_is k n (length c.args.word.now) f.long in
     let long : length c.args.word.now ≡ 2 * k * n = f.long in
     let m : k * c.args.w * c.args.s ≡ k * n = mul_assoc k c.args.w c.args.s in
-    let back_len : length c.split_at_mut-data.result.1.now + length c.args.word.now / 2 ≡ length c.args.word.now = c.split_at_mut-data.ensures.back_len in
-    let back : length c.split_at_mut-data.result.1.now ≡ k * c.args.w * c.args.s = omega arith in
+    let back_len : length c.split_at_mut-front.result.1.now + length c.args.word.now / 2 ≡ length c.args.word.now = c.split_at_mut-front.ensures.back_len in
+    let back : length c.split_at_mut-front.result.1.now ≡ k * c.args.w * c.args.s = omega arith in
     record {
       small = (omega arith, (f.some, (f.few, f.sized)));
-      long = (half_long k c.code_rows-rows.result.now c.code_rows-rows.ensures.long, (c.split_at_mut-data.ensures.front_len ∙ half, back));
+      long = (half_long k c.code_rows-rows.result.now c.code_rows-rows.ensures.long, (c.split_at_mut-front.ensures.front_len ∙ half, back));
     }
 
 pub returns-clause-whole : goal.returns-clause-whole
@@ -43,19 +43,19 @@ returns-clause-whole g c =
     let f = complete_parts k w s (length old) (sym e) in
     let l : k ≤ 32 = width_most k f.wide in
     let half : length old / 2 ≡ k * (w * s) = half_is k (w * s) (length old) f.long in
-    let data_is : c.split_at_mut-data.result.0.now ≡ xs = c.split_at_mut-data.ensures.front ∙ ap (λ n. take n old) half in
+    let front_is : c.split_at_mut-front.result.0.now ≡ xs = c.split_at_mut-front.ensures.front ∙ ap (λ n. take n old) half in
     let m : k * w * s ≡ k * (w * s) = mul_assoc k w s in
     let two : 2 * k * (w * s) ≡ k * (w * s) + k * (w * s) = both_halves k (w * s) in
     let long : length old ≡ 2 * k * (w * s) = f.long in
-    let back_len : length c.split_at_mut-data.result.1.now + length old / 2 ≡ length old = c.split_at_mut-data.ensures.back_len in
-    let back : length c.split_at_mut-data.result.1.now ≡ k * (w * s) = omega arith in
+    let back_len : length c.split_at_mut-front.result.1.now + length old / 2 ≡ length old = c.split_at_mut-front.ensures.back_len in
+    let back : length c.split_at_mut-front.result.1.now ≡ k * (w * s) = omega arith in
     let rest : c.apply_behind.new.behind ≡ drop (k * (w * s)) (codeword g.C.Code.table k (w * s) xs) =
     rest_from_rows g.C.Code.table k (w * s) rows xs c.apply_behind.new.behind c.code_rows-rows.ensures (c.apply_behind.auto.behind ∙ back)
     (λ i hi x hx.
-    by_share_bytes k w s (λ i j. byte_of k i j (take (length rows - k * k) (drop (k * k) rows))) c.split_at_mut-data.result.0.now c.apply_behind.new.behind
+    by_share_bytes k w s (λ i j. byte_of k i j (take (length rows - k * k) (drop (k * k) rows))) c.split_at_mut-front.result.0.now c.apply_behind.new.behind
     c.apply_behind.ensures i hi x hx
-    ∙ ap (λ ys. applied k (λ j. byte_of k i j (take (length rows - k * k) (drop (k * k) rows))) (λ j. byte_of (w * s) j x ys)) data_is) in
-    ap₂ ◌++◌ data_is rest
-    ∙ codeword_halves g.C.Code.table g.met.C.Code.first k (w * s) (omega arith) xs (sym (ap length data_is) ∙ c.split_at_mut-data.ensures.front_len ∙ half)
-    (λ n. subst (λ ys. get_or ys n 0 < 256) data_is (front_small c.split_at_mut-data.result.0.now c.apply_behind.new.behind (λ n. (c.type_inv.word n).fits) n))
+    ∙ ap (λ ys. applied k (λ j. byte_of k i j (take (length rows - k * k) (drop (k * k) rows))) (λ j. byte_of (w * s) j x ys)) front_is) in
+    ap₂ ◌++◌ front_is rest
+    ∙ codeword_halves g.C.Code.table g.met.C.Code.first k (w * s) (omega arith) xs (sym (ap length front_is) ∙ c.split_at_mut-front.ensures.front_len ∙ half)
+    (λ n. subst (λ ys. get_or ys n 0 < 256) front_is (front_small c.split_at_mut-front.result.0.now c.apply_behind.new.behind (λ n. (c.type_inv.word n).fits) n))
     ∙ ap (λ t. cond t (codeword g.C.Code.table k (w * s) xs) old) e
