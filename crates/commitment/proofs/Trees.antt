@@ -1,6 +1,7 @@
 -- Trees over values.
-use Rattle.std.proofs.Common.{◌≡◌, ℕ, zero, suc, ◌*◌, ◌^◌, ◌<◌, ◌≤◌, true, leb, List, length, ap, ◌∙◌, arith}
+use Rattle.std.proofs.Common.{◌≡◌, ℕ, zero, suc, ◌*◌, ◌^◌, ◌<◌, ◌≤◌, true, leb, List, length, Result, Ok, Err, ap, ◌∙◌, arith}
 use Rattle.std.proofs.lemmas.Bool.{le-leb, eq-eqb, and_from, cond-true}
+use Rattle.std.specs.Result.{MatchResult, result_unwrap_or}
 use Rattle.hash.specs.Digests.{digest_len}
 use Rattle.layout.specs.Answers.{grown, is_tree, depth_limit, leaf_count, root_fits, cut_root}
 use Rattle.merkle.specs.Climb.{Node, plain_rule, join_of, slot}
@@ -23,6 +24,12 @@ pub grown_over : (f : List ℕ → List ℕ) (leaf : ℕ → Node) (d : ℕ) (xs
     → ((j : ℕ) → j < 2 ^ d → slot j xs ≡ leaf j) → ys ≡ grown f d xs → ys ≡ tree_layout (join_of plain_rule f) d leaf
 grown_over f leaf d xs ys l n e w =
     w ∙ cond-true (is_tree d (length xs)) _ _ (tree_is d (length xs) l n) ∙ layout_same (join_of plain_rule f) (λ i. slot i xs) leaf d e
+
+-- what is given of a leaf that is not too long
+pub leaf_given : {E : Type 0} (r : Result (List ℕ) E) (d x : List ℕ) (n m : ℕ) → n ≤ m → MatchResult r (λ v. (n ≤ m) × (v ≡ x)) (λ _. m < n)
+    → result_unwrap_or r d ≡ x
+leaf_given (Ok v) d x n m l e = e.1
+leaf_given (Err e) d x n m l o = absurd (omega (arith, l, o))
 
 -- the root cut from the tree over some digests
 pub root_cut : (f : List ℕ → List ℕ) → ((m : List ℕ) → length (f m) ≡ digest_len) → (leaf : ℕ → Node) (d : ℕ) (tree out top : List ℕ) → d ≤ depth_limit

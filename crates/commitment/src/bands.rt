@@ -8,20 +8,18 @@ ghost use Rattle.merkle.specs.Climb.{join_of, plain_rule, slot};
 ghost use Rattle.merkle.specs.Tree.{node, root};
 
 use crate::cells::Cells;
+use crate::rooms::LINE_TREE_ROOM;
 use crate::values::grown_root;
 use hash::digest::Hash;
 use hash::limits::DIGEST_LEN;
 use layout::entry::{join_entries, put_entry};
-
-// The tree of the longest line. The library allocates nothing, so a shorter line's takes the front of as much.
-const TREE_ROOM: usize = 4064;
 
 // The root of the tree over a row of 2^depth digests.
 fn row_root<H: Hash>(row: &[u8], depth: usize) -> [u8; DIGEST_LEN]
     requires { (depth ≤ 6) × ((length row.now ≡ digest_len * 2 ^ depth) × (2 ^ depth ≤ 64)) }
     ensures { result ≡ root (join_of plain_rule H.meaning) depth (λ p. slot p row.now) }
 {
-    let mut space = [0u8; TREE_ROOM];
+    let mut space = [0u8; LINE_TREE_ROOM];
     space[..row.len()].copy_from_slice(row);
     grown_root::<H>(&mut space[..2 * row.len() - DIGEST_LEN], depth)
 }

@@ -5,6 +5,7 @@ mod bands;
 pub mod cells;
 pub mod commit;
 pub mod line;
+pub mod rooms;
 pub mod roots;
 mod run;
 pub mod values;

@@ -8,8 +8,9 @@ ghost use Rattle.merkle.specs.Climb.{join_of, plain_rule, slot};
 ghost use Rattle.merkle.specs.Layout.{tree_len};
 ghost use Rattle.merkle.specs.Tree.{root};
 
+use crate::rooms::DATA_TREE_ROOM;
 use crate::run::Run;
-use climbs::node::leaf_digest;
+use climbs::node;
 use hash::digest::Hash;
 use hash::limits::DIGEST_LEN;
 use layout::cut::tree_root;
@@ -21,17 +22,13 @@ use octets::misfit::Misfit;
 // Levels of the deepest data tree above its leaves.
 const DATA_DEPTH: usize = 7;
 
-// Its bytes. The library allocates nothing, so a smaller tree takes the front of as much.
-const TREE_ROOM: usize = 8160;
-
 // The digest of the value with number `n`, of `size` bytes.
 pub(crate) fn leaf<H: Hash>(values: &[u8], size: usize, n: usize) -> [u8; DIGEST_LEN]
     requires { (size ≤ parts_limit) × ((n < 2 ^ 32) × (n * size + size ≤ length values.now)) }
     ensures { result ≡ value_leaf H.meaning size values.now n }
 {
-    let mut leaf = [0u8; DIGEST_LEN];
-    let _ = leaf_digest::<H>(&values[n * size..n * size + size], &mut leaf);
-    leaf
+    // No value here is too long, so what stands for a refusal is never given.
+    node::leaf::<H>(&values[n * size..n * size + size]).unwrap_or([0u8; DIGEST_LEN])
 }
 
 // Grows the tree over the digests in front of `tree` and gives its root.
@@ -62,7 +59,7 @@ impl Run<'_> {
         requires { self.now.depth ≤ 7 }
         ensures { result ≡ value_root H.meaning self.now.depth self.now.size self.now.values.now }
     {
-        let mut space = [0u8; TREE_ROOM];
+        let mut space = [0u8; DATA_TREE_ROOM];
         let tree = &mut space[..DIGEST_LEN * (2 * leaves(self.depth) - 1)];
         self.put_leaves::<H>(tree);
         grown_root::<H>(tree, self.depth)

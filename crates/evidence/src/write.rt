@@ -12,6 +12,7 @@ ghost use Rattle.header.specs.Sizes.{depth, line_count, width};
 ghost use Rattle.merkle.specs.Layout.{path_of};
 
 use crate::block::Block;
+use commitment::rooms::{DATA_TREE_ROOM, LINE_TREE_ROOM};
 use commitment::values::value_tree;
 use hash::digest::Hash;
 use hash::limits::DIGEST_LEN;
@@ -19,11 +20,6 @@ use header::cell::{Axis, Cell};
 use header::header::Header;
 use header::refusal::SquareRefusal;
 use layout::cut::tree_path;
-
-// The trees of the longest line and of the most roots. The library allocates nothing, so a smaller block's take the front of as much.
-const AXIS_ROOM: usize = 4064;
-
-const DATA_ROOM: usize = 8160;
 
 impl Block<'_> {
     // Writes the path of a place in the tree of a line.
@@ -33,7 +29,7 @@ impl Block<'_> {
         ensures { out.new ≡ path_of (depth (fields_of self.now.cells.header.now)) place (line_tree H.meaning (fields_of self.now.cells.header.now) self.now.cells.shares.now line) }
     {
         let n = &self.cells.lengths;
-        let mut space = [0u8; AXIS_ROOM];
+        let mut space = [0u8; LINE_TREE_ROOM];
         let tree = &mut space[..n.axis_tree];
         let _ = self.cells.line_tree::<H>(line, tree);
         let _ = tree_path(tree, n.depth, place, out);
@@ -46,7 +42,7 @@ impl Block<'_> {
         ensures { out.new ≡ path_of (depth (fields_of self.now.cells.header.now) + 1) line (value_tree H.meaning (depth (fields_of self.now.cells.header.now) + 1) digest_len self.now.roots.now) }
     {
         let n = &self.cells.lengths;
-        let mut space = [0u8; DATA_ROOM];
+        let mut space = [0u8; DATA_TREE_ROOM];
         let tree = &mut space[..n.data_tree];
         let _ = value_tree::<H>(self.roots, DIGEST_LEN, n.depth + 1, tree);
         let _ = tree_path(tree, n.depth + 1, line, out);

@@ -11,10 +11,8 @@ use commitment::values::value_tree;
 use hash::digest::Hash;
 use hash::limits::DIGEST_LEN;
 use header::header::Header;
+use header::lengths::ROOTS_ROOM;
 use header::refusal::SquareRefusal;
-
-// The roots of the largest square. The library allocates nothing, so those of a smaller one take the front of as much.
-const ROOTS_ROOM: usize = 4096;
 
 // Writes the trees of all rows, one after the other.
 fn put_row_trees<H: Hash>(cells: &Cells, trees: &mut [u8])
