@@ -7,7 +7,7 @@ use crate::witness::Witness;
 use header::cell::{Axis, Cell};
 
 // Reading refuses an axis over 1; in a proof or a witness made otherwise it stands for a column.
-fn axis_by(byte: u8) -> Axis
+pub(crate) fn axis_by(byte: u8) -> Axis
     ensures { result ≡ axis_by byte }
 {
     Axis::try_from(byte).unwrap_or(Axis::Column)
@@ -27,14 +27,5 @@ impl Proof<'_> {
         ensures col { result.col ≡ col_at (axis_by self.now.axis) self.now.index w.now.place }
     {
         Cell::on_line(self.axis(), self.index, w.place)
-    }
-}
-
-impl Witness<'_> {
-    // The axis along which it is proved.
-    pub fn axis(&self) -> Axis
-        ensures { result ≡ axis_by self.now.axis }
-    {
-        axis_by(self.axis)
     }
 }

@@ -2,7 +2,7 @@
 
 #[derive(Clone, Copy)]
 pub struct Proof<'a> {
-    // The claimed line; axis 0 is a row, 1 a column.
+    // The claimed line; axis 0 is a row, 1 a column. It is a byte, as a proof is also made by hand, of any bytes.
     pub axis: u8,
     pub index: u16,
     // The root claimed for it, and its path in the data tree.
