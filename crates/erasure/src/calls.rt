@@ -1,5 +1,5 @@
 // Encoding and recovery. An encoding has the data at the first k places and works out the rest; a recovery writes the one codeword
-// that has given shares at given places.
+// that has given shares at given places. Numbers and plain bytes are passed, since the C interface calls with these.
 ghost use Rattle.std.specs.Prelude.{◌≡◌, ◌*◌, ◌<◌, true, length, drop, if◌then◌else◌, Ok, Err, ◌==◌};
 ghost use Rattle.octets.specs.Outcome.{Refused, outcome};
 ghost use Rattle.octets.specs.Written.{written};
@@ -26,7 +26,7 @@ fn lengths_fit(k: usize, s: usize, n: usize, m: usize) -> bool
     n == k * s && m == 2 * k * s
 }
 
-// Writes the codeword through the shares at these places.
+// Writes the codeword through the shares at these places. `weights` looks at them once more, since anyone may call it with any.
 fn fill_word<C: Code>(places: &[u16], s: usize, shares: &[u8], out: &mut [u8])
     requires { (ok_width (length places.now) ≡ true) × ((rising_below (2 * length places.now) places.now ≡ true) × ((s < 513) × ((length shares.now ≡ length places.now * s) × (length out.old ≡ 2 * length places.now * s)))) }
     ensures { Through C.Code.table (length places.now) s places.now shares.now out.new }

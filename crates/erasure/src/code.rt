@@ -17,7 +17,8 @@ pub trait Code {
     // second law; so they narrow nothing.
     ghost weight: { Weight };
 
-    // Writes the weights of the shares at these places, a row for each symbol. If the places have none, or the rows do not fit, nothing is written.
+    // Writes the weights of the shares at these places, a row for each symbol. If the places have none, or the rows do not fit, nothing is
+    // written. It gives no answer: whoever calls it has tested the places before, and would drop the answer.
     fn weights(places: &[u16], rows: &mut [u8])
         ensures { rows.new ≡ weighed weight places.now rows.old };
 

@@ -1,5 +1,6 @@
 // Sums of shares by coefficients, share by share: from the coefficients' highest bit down, the sum so far is doubled, and the
-// shares whose coefficient has the bit are added. That is eight doublings for any number of shares.
+// shares whose coefficient has the bit are added. That is eight doublings for any number of shares. Shares are bytes and a size:
+// there are as many as the row has coefficients, and a struct of them would say so a second time.
 ghost use Rattle.std.specs.Prelude.{◌≡◌, ℕ, ◌+◌, ◌*◌, ◌/◌, ◌%◌, ◌^◌, ◌<◌, ◌≤◌, length, bit_xor, slice_index};
 ghost use Rattle.octets.specs.Shares.{byte_of};
 ghost use Rattle.codes.specs.Code.{applied};

@@ -1,4 +1,4 @@
-// The two codes.
+// The two codes. Each has its `weights`, and the trait provides none: the weights of a code need not be products of factors.
 ghost use Rattle.codes.specs.Code.{cauchy, cauchy_scale, plain_scale, polynomial, scaled_weight};
 ghost use Rattle.codes.proofs.Polynomial as ProofsPolynomial;
 ghost use Rattle.codes.proofs.Cauchy as ProofsCauchy;
@@ -50,7 +50,7 @@ impl Scaled for Cauchy {
 
     ghost units = { ProofsCauchy.scale_unit };
 
-    // The product over m below k, other than i, of 1 / (i xor m).
+    // The product over m below k, other than i, of 1 / (i xor m). It is no `denominator` of places: from k on, i is none of them.
     fn factor(k: usize, i: usize) -> u8 {
         let mut all = 1;
         for m in 0..k {

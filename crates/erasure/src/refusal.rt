@@ -28,7 +28,7 @@ impl From<Misfit> for CodeRefusal {
 }
 
 impl CodeRefusal {
-    // The refusal's number.
+    // The refusal's number, as the C interface has it; so no variant may change its own.
     pub fn number(self) -> u8
         ensures { result ≡ (told self).number }
     {

@@ -1,4 +1,5 @@
-// The table of a code's weights, for which the caller has the room.
+// The table of a code's weights, for which the caller has the room. That k is allowed stands in clauses: the public calls take k as a
+// number, and a type for it would be made and taken apart between two of them.
 ghost use Rattle.std.specs.Prelude.{◌≡◌, ℕ, ◌*◌, ◌<◌, true, length, slice_index};
 ghost use Rattle.erasure.specs.Limits.{ok_width};
 ghost use Rattle.erasure.specs.Places.{rising_below};
@@ -6,7 +7,7 @@ ghost use Rattle.erasure.specs.Weights.{CodeRows, weight_table};
 
 use crate::code::Code;
 
-// The largest table: 64 rows of 32.
+// The largest table: 64 rows of 32. The library allocates nothing, so the tables and places of a smaller k take the front of as much.
 pub(crate) const TABLE_ROOM: usize = 2048;
 
 // The weights of the shares at these places, a row for each symbol.

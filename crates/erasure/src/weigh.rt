@@ -127,6 +127,7 @@ impl Given<'_> {
         ensures { (i : ℕ) → i < 2 * length self.now.places.now → (j : ℕ) → j < length self.now.places.now → byte_of (length self.now.places.now) i j rows.new ≡ scaled_weight S.Scaled.factor (length self.now.places.now) (at self.now.places.now) i j }
     {
         let k = self.places.len();
+        // The factors of the largest k: the library allocates nothing. How many of them are used only k says, and no type.
         let mut symbol_space = [0u8; 64];
         let symbols = &mut symbol_space[0..2 * k];
         symbol_factors::<S>(k, symbols);

@@ -1,8 +1,7 @@
 // Filling the extended square by a code.
-ghost use Rattle.std.specs.Prelude.{◌≡◌, ℕ, ◌*◌, ◌<◌, true, length, take, if◌then◌else◌, slice_index};
+ghost use Rattle.std.specs.Prelude.{◌≡◌, ℕ, ◌*◌, ◌<◌, true, length, if◌then◌else◌, slice_index};
 ghost use Rattle.octets.specs.Shares.{byte_of, share};
 ghost use Rattle.codes.specs.Words.{codeword};
-ghost use Rattle.erasure.specs.Calls.{complete_fits};
 ghost use Rattle.erasure.specs.Limits.{ok_size, ok_width};
 ghost use Rattle.std.specs.Result.{is_ok};
 ghost use Rattle.extension.specs.Laws.{LinesCoded, LinesFromAny};

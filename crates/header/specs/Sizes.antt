@@ -47,10 +47,6 @@ data_path_len h = digest_len * (depth h + 1)
 abbrev pub path_len : Fields → ℕ
 path_len h = digest_len * (2 * depth h + 1)
 
--- a share and a path of an evidence
-abbrev pub evidence_fits : Fields → ℕ → ℕ → Bool
-evidence_fits h n m = n == h.s && m == path_len h
-
 -- a tree of n leaves has 2n - 1 nodes
 abbrev pub axis_tree_len : Fields → ℕ
 axis_tree_len h = digest_len * (2 * width h - 1)

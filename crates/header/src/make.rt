@@ -1,4 +1,4 @@
-// The one way to a header.
+// Headers of their parts, or of k and a share size alone.
 ghost use Rattle.octets.specs.Outcome.{outcome_by};
 ghost use Rattle.header.specs.Fields.{fields_of, header_outcome, shape};
 ghost use Rattle.header.specs.Refusals.{told};
@@ -60,7 +60,7 @@ impl Header {
 }
 
 impl SquareRefusal {
-    // The number by which the call refuses.
+    // The number by which the call refuses, as the C interface has it; so no variant may change its own.
     pub fn number(self) -> u8
         ensures { result ≡ (told self).number }
     {

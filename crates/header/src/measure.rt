@@ -1,5 +1,5 @@
 // Lengths and cells of the block that a header names.
-ghost use Rattle.std.specs.Prelude.{◌≡◌, ℕ, ◌+◌, ◌*◌, ◌^◌, ◌<◌, ◌≤◌, IfSome};
+ghost use Rattle.std.specs.Prelude.{◌≡◌, ◌<◌, ◌≤◌, IfSome};
 ghost use Rattle.header.specs.Fields.{fields_of};
 ghost use Rattle.header.specs.Sizes.{cell_count, depth, has_cell, lengths_of, line_number, number_of, width};
 
