@@ -53,7 +53,7 @@ pub fn climb<H: Hash>(node: &mut [u8], place: usize, path: &[u8]) -> Result<(), 
 // them, it refuses and writes nothing.
 pub fn climb_leaf<H: Hash>(
     value: &[u8],
-    mut place: usize,
+    place: usize,
     path: &[u8],
     out: &mut [u8],
 ) -> Result<(), Misfit>

@@ -3,7 +3,7 @@ ghost use Rattle.std.specs.Prelude.{◌≡◌, ◌+◌, ◌*◌, ◌<◌, ◌≤
 ghost use Rattle.std.specs.Str.{bytes_eq};
 ghost use Rattle.collisions.specs.Finding.{at_front};
 ghost use Rattle.hash.specs.Digests.{digest_len, parts_limit};
-ghost use Rattle.merkle.specs.Climb.{above, alone, beside, input, leaf_of, plain_rule};
+ghost use Rattle.merkle.specs.Climb.{alone, beside, input, leaf_of, plain_rule};
 ghost use Rattle.merkle.specs.Tree.{side};
 
 use climbs::node::{LEAF, PAIR, in_order, join, leaf_digest};

@@ -1,5 +1,5 @@
 // Hashes that work through a padded message block by block.
-ghost use Rattle.std.specs.Prelude.{◌≡◌, ◌+◌, ◌*◌, ℕ, true, List, length};
+ghost use Rattle.std.specs.Prelude.{◌≡◌, ◌+◌, ◌*◌, ℕ, true, List};
 ghost use Rattle.octets.specs.Window.{window};
 ghost use Rattle.hash.specs.Blocks.{after_all, ok_block};
 

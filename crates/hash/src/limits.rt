@@ -1,7 +1,7 @@
 // What every digest call checks first.
 ghost use Rattle.std.specs.Prelude.{◌≡◌, ◌+◌};
 ghost use Rattle.octets.specs.Outcome.{outcome};
-ghost use Rattle.hash.specs.Digests.{digest_len, digest_outcome, parts_limit};
+ghost use Rattle.hash.specs.Digests.{digest_outcome};
 ghost use Rattle.hash.specs.Refusals.{told};
 
 use crate::refusal::DigestRefusal;

@@ -1,10 +1,8 @@
 // Cutting roots and paths from laid-out trees.
 ghost use Rattle.std.specs.Prelude.{◌≡◌, ◌+◌, ◌*◌, ◌^◌, ◌<◌, ◌≤◌, length};
 ghost use Rattle.std.specs.Result.{is_ok};
-ghost use Rattle.octets.specs.Splice.{over};
 ghost use Rattle.hash.specs.Digests.{digest_len};
 ghost use Rattle.layout.specs.Answers.{cut_path, cut_root, depth_limit, path_fits, root_fits};
-ghost use Rattle.merkle.specs.Climb.{slot};
 ghost use Rattle.merkle.specs.Layout.{path_of, root_of, tree_len};
 ghost use Rattle.merkle.specs.Tree.{flip};
 

@@ -1,7 +1,6 @@
 // The entries of a row of digests, which stand one after the other.
 ghost use Rattle.std.specs.Prelude.{◌≡◌, ◌&&◌, length, true, false, MatchOption};
 ghost use Rattle.std.specs.Result.{is_ok};
-ghost use Rattle.hash.specs.Digests.{digest_len};
 ghost use Rattle.layout.specs.Answers.{copied, has_entry, joined, put_at};
 ghost use Rattle.merkle.specs.Climb.{slot};
 

@@ -1,8 +1,6 @@
 // Growing a tree from its leaves.
-ghost use Rattle.std.specs.Prelude.{◌≡◌, ◌+◌, ◌*◌, ◌^◌, ◌<◌, ◌≤◌, length};
+ghost use Rattle.std.specs.Prelude.{◌≡◌, ◌+◌, ◌*◌, ◌^◌, ◌<◌, length};
 ghost use Rattle.std.specs.Result.{is_ok};
-ghost use Rattle.octets.specs.Splice.{over};
-ghost use Rattle.hash.specs.Digests.{digest_len};
 ghost use Rattle.layout.specs.Answers.{grown, is_tree};
 ghost use Rattle.merkle.specs.Climb.{join_of, plain_rule, slot};
 ghost use Rattle.merkle.specs.Layout.{tree_layout, tree_len};

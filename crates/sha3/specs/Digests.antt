@@ -1,4 +1,4 @@
--- A digest has 32 bytes, each below 256. The laws stand here, since an impl names only what stands in the specs of its crate.
+-- A digest has 32 bytes, each below 256. The laws stand here, since of its own crate an impl may name what stands in the specs, and not its proofs.
 use Rattle.std.specs.Prelude.{◌≡◌, ℕ, zero, suc, ◌<◌, List, [], ◌∷◌, length, slice_index, refl}
 use Rattle.std.proofs.Common.{arith}
 use Rattle.octets.proofs.Joins.{joined_below}

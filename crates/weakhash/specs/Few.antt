@@ -1,4 +1,4 @@
--- The digests of the weak hash. The laws stand here, since an impl names only what stands in the specs of its crate.
+-- The digests of the weak hash. The laws stand here, since of its own crate an impl may name what stands in the specs, and not its proofs.
 use Rattle.std.specs.Prelude.{◌≡◌, ℕ, zero, suc, ◌<◌, ◌≤◌, List, length, replicate, nat_lt, slice_index, refl}
 use Rattle.std.proofs.Common.{inl, inr, arith}
 use Rattle.std.proofs.lemmas.Nat.{mod_below}
