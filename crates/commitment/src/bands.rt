@@ -31,6 +31,7 @@ fn join_rows<H: Hash>(work: &mut [u8], width: usize)
 {
     // By index: each step reads two entries of the row that it writes to.
     for j in 0..width {
+        // Both rows have these entries, so nothing is refused.
         let _ = join_entries::<H>(work, j, width + j, j);
     }
 }
@@ -48,7 +49,8 @@ impl Cells<'_> {
     }
 
     // Writes node i of level `level` of every column's tree to the first row of `work`, and the roots of the rows below it; the rows
-    // before those are done. The rows of digests behind the first are where the levels below are worked out.
+    // before those are done. The rows of digests behind the first are where the levels below are worked out. That the roots are as long as
+    // their block's is said here and of `put_roots` alone: a struct with that fact would only be taken apart by both.
     pub(crate) fn fold<H: Hash>(&self, level: usize, i: usize, work: &mut [u8], roots: &mut [u8])
         requires rows { (i + 1) * 2 ^ level ≤ self.now.lengths.width }
         requires room { (digest_len * (self.now.lengths.width * level + self.now.lengths.width) ≤ length work.old) × (length roots.old ≡ digest_len * (2 * self.now.lengths.width)) }
@@ -58,6 +60,7 @@ impl Cells<'_> {
     {
         if level == 0 {
             let root = self.hash_row::<H>(i, work);
+            // The roots have an entry for each line, so nothing is refused.
             let _ = put_entry(roots, i, &root);
         } else {
             let below = level - 1;

@@ -15,7 +15,8 @@ use layout::entry::put_entry;
 use layout::grow::grow;
 use octets::misfit::Misfit;
 
-// In a square of this width, the number of the cell at place p of line n.
+// In a square of this width, the number of the cell at place p of line n. A line goes by its leaf in the data tree: rows come first,
+// then columns.
 fn cell_on(width: usize, n: usize, p: usize) -> usize
     requires { (width ≤ 64) × ((n < 2 * width) × (p < width)) }
     ensures { result ≡ cell_on width n p }

@@ -13,7 +13,7 @@ use header::header::Header;
 use octets::misfit::Misfit;
 
 // A row of digests for each level of the deepest tree of a column: 7 of 64. The library allocates nothing, so a smaller square takes
-// the front of as much.
+// the front of as much. Rows are bytes, as the roots that the first of them is copied to.
 const WORK_ROOM: usize = 14336;
 
 impl Cells<'_> {

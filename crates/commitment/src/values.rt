@@ -37,6 +37,7 @@ pub(crate) fn grown_root<H: Hash>(tree: &mut [u8], depth: usize) -> [u8; DIGEST_
     ensures { result ≡ root (join_of plain_rule H.meaning) depth (λ i. slot i tree.old) }
 {
     let mut top = [0u8; DIGEST_LEN];
+    // The buffers are a tree and a digest, so nothing is refused.
     let _ = grow::<H>(tree, depth);
     let _ = tree_root(tree, depth, &mut top);
     top

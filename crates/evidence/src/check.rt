@@ -14,7 +14,8 @@ use header::cell::{Axis, Cell};
 use header::header::Header;
 use header::refusal::SquareRefusal;
 
-// Climbs through two trees, by the first `depth` digests of the path and then by the others, and gives the end.
+// Climbs through two trees, by the first `depth` digests of the path and then by the others, and gives the end. Here and below a share
+// and its path stay two slices: callers hold them in buffers, stores and records of different forms, and none as one value.
 fn climb_two<H: Hash>(
     share: &[u8],
     depth: usize,
@@ -28,6 +29,7 @@ fn climb_two<H: Hash>(
     let (axis_path, data_path) = path.split_at(DIGEST_LEN * depth);
     let mut root = [0u8; DIGEST_LEN];
     let mut end = [0u8; DIGEST_LEN];
+    // The lengths are known to fit, so nothing is refused.
     let _ = climb_leaf::<H>(share, place, axis_path, &mut root);
     let _ = climb_leaf::<H>(&root, leaf, data_path, &mut end);
     end
@@ -47,7 +49,8 @@ pub fn verified<H: Hash>(h: &Header, cell: Cell, axis: Axis, share: &[u8], path:
     end == h.data_root
 }
 
-// Checks an evidence for a cell; the proving axis is 0 for the cell's row and 1 for its column.
+// Checks an evidence for a cell; the proving axis is 0 for the cell's row and 1 for its column. It is a byte, since records and the C
+// interface bring one, and a byte over 1 is refused with a number of its own.
 pub fn check_share<H: Hash>(
     h: &Header,
     cell: Cell,
@@ -57,6 +60,7 @@ pub fn check_share<H: Hash>(
 ) -> Result<(), SquareRefusal>
     ensures { outcome told result ≡ check_outcome H.meaning H.KIND (fields_of h.now) cell.row cell.col axis share.now path.now }
 {
+    // One comparison, which each call under a hash makes first: no plainer as a function.
     if h.hash_kind != H::KIND {
         return Err(SquareRefusal::OtherHash);
     }

@@ -22,7 +22,7 @@ use header::refusal::SquareRefusal;
 use layout::cut::tree_path;
 
 impl Block<'_> {
-    // Writes the path of a place in the tree of a line.
+    // Writes the path of a place in the tree of a line. The lengths fit here and below, so nothing is refused.
     fn put_axis_path<H: Hash>(&self, line: usize, place: usize, out: &mut [u8])
         requires place { (line < line_count (fields_of self.now.cells.header.now)) × (place < width (fields_of self.now.cells.header.now)) }
         requires room { length out.old ≡ self.now.cells.lengths.axis_path }
@@ -35,7 +35,8 @@ impl Block<'_> {
         let _ = tree_path(tree, n.depth, place, out);
     }
 
-    // Writes the path of a line's root in the data tree.
+    // Writes the path of a line's root in the data tree. The two trees are over different parts of a block, and only the cut is alike: one
+    // function would take the laying out as a closure, and be no shorter.
     fn put_data_path<H: Hash>(&self, line: usize, out: &mut [u8])
         requires line { line < line_count (fields_of self.now.cells.header.now) }
         requires room { length out.old ≡ self.now.cells.lengths.data_path }
@@ -75,6 +76,7 @@ pub fn evidence_of<H: Hash>(
     ensures written { path.new ≡ written (evidence_outcome H.KIND (fields_of h.now) cell.row cell.col (length square.now) (length roots.now) (length path.old)) (evidence_path H.meaning (fields_of h.now) square.now roots.now axis cell.row cell.col) path.old }
     ensures proves { evidence_outcome H.KIND (fields_of h.now) cell.row cell.col (length square.now) (length roots.now) (length path.old) ≡ Ok tt → Proves H.meaning (fields_of h.now) square.now roots.now axis cell.row cell.col path.new }
 {
+    // One comparison, which each call under a hash makes first: no plainer as a function.
     if h.hash_kind != H::KIND {
         return Err(SquareRefusal::OtherHash);
     }

@@ -14,7 +14,7 @@ use header::header::Header;
 use header::lengths::ROOTS_ROOM;
 use header::refusal::SquareRefusal;
 
-// Writes the trees of all rows, one after the other.
+// Writes the trees of all rows, one after the other. The lengths fit here and below, so nothing is refused.
 fn put_row_trees<H: Hash>(cells: &Cells, trees: &mut [u8])
     requires { length trees.old ≡ cells.now.lengths.width * cells.now.lengths.axis_tree }
     ensures { trees.new ≡ row_trees H.meaning (fields_of cells.now.header.now) cells.now.shares.now cells.now.lengths.width }
@@ -59,6 +59,7 @@ pub fn lay_out_image<H: Hash>(
     ensures answer { outcome told result ≡ image_outcome H.KIND (fields_of h.now) (length square.now) (length image.old) }
     ensures laid { image.new ≡ written (image_outcome H.KIND (fields_of h.now) (length square.now) (length image.old)) (image_of H.meaning (fields_of h.now) square.now) image.old }
 {
+    // One comparison, which each call under a hash makes first: no plainer as a function.
     if h.hash_kind != H::KIND {
         return Err(SquareRefusal::OtherHash);
     }

@@ -37,6 +37,7 @@ pub fn extend<H: Hash, C: Code>(
     if shares.len() != n.data || square.len() != n.square || roots.len() != n.roots {
         return Err(SquareRefusal::WrongLength);
     }
+    // The lengths fit, so nothing is refused.
     let _ = fill::<C>(k, s, shares, square);
     commit::<H, C>(k, s, square, roots)
 }
