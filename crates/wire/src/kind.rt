@@ -2,12 +2,14 @@
 ghost use Rattle.std.specs.Prelude.{◌≡◌, ◌+◌, ◌*◌, true, IfOk};
 ghost use Rattle.octets.specs.Outcome.{outcome_by};
 ghost use Rattle.header.specs.Fields.{fields_of};
+ghost use Rattle.header.specs.Sizes.{head_len};
 ghost use Rattle.wire.specs.Kinds.{Named, anything, code_of};
 ghost use Rattle.wire.specs.Reading.{admitted, body_for, is_due};
 ghost use Rattle.wire.specs.Refusals.{told_fault};
 
 use crate::due::Due;
 use crate::refusal::Fault;
+use crate::write::HEAD_LEN;
 use header::header::Header;
 
 // The number of a kind is what stands in the head of its records.
@@ -83,6 +85,13 @@ impl Kind {
             Kind::Claim => n.claim_body,
             Kind::Witness => n.witness_body,
         }
+    }
+
+    // The length of a record of this kind in a block, its head included.
+    pub fn record_len(self, h: &Header) -> usize
+        ensures { result ≡ head_len + body_for (fields_of h.now) (code_of self) }
+    {
+        HEAD_LEN + self.body_len(h)
     }
 }
 

@@ -8,6 +8,7 @@ ghost use Rattle.std.specs.Prelude.{◌≡◌};
 use crate::record::Record;
 use erasure::limits::{ok_size, ok_width};
 use hash::limits::DIGEST_LEN;
+use header::cell::Axis;
 use header::header::Header;
 
 // Whether an axis is at most 1, an index and a place are below the width, and k and s of a header record are allowed.
@@ -19,11 +20,11 @@ pub(crate) fn in_range(h: &Header, item: &Record) -> bool
     match *item {
         Record::Header { k, s, .. } => ok_width(k as usize) && ok_size(s as usize),
         Record::Roots(_) => true,
-        Record::Group { axis, index } => axis <= 1 && index < width,
+        Record::Group { axis, index } => Axis::try_from(axis).is_ok() && index < width,
         Record::Share { place, .. } => place < width,
         Record::GroupEnd => true,
-        Record::Claim { axis, index, .. } => axis <= 1 && index < width,
-        Record::Witness { place, axis, .. } => place < width && axis <= 1,
+        Record::Claim { axis, index, .. } => Axis::try_from(axis).is_ok() && index < width,
+        Record::Witness { place, axis, .. } => place < width && Axis::try_from(axis).is_ok(),
     }
 }
 

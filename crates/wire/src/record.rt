@@ -1,4 +1,10 @@
 // A record as parts of the bytes that it was read from.
+ghost use Rattle.std.specs.Prelude.{◌≡◌};
+ghost use Rattle.header.specs.Fields.{fields_of};
+ghost use Rattle.wire.specs.Parts.{value_of};
+ghost use Rattle.wire.specs.Values.{header};
+
+use header::header::Header;
 
 // Numbers stand as they are, and an axis stays a byte, since a writer has to refuse one over 1; shares, paths and roots are lent.
 #[derive(Clone, Copy)]
@@ -38,4 +44,19 @@ pub enum Record<'a> {
         share: &'a [u8],
         path: &'a [u8],
     },
+}
+
+// The header record of a header.
+impl<'a> From<&'a Header> for Record<'a> {
+    ghost from_gives = { λ h made. value_of made ≡ header (fields_of h.now) };
+
+    fn from(h: &'a Header) -> Record<'a> {
+        Record::Header {
+            k: h.k,
+            s: h.s,
+            hash_kind: h.hash_kind,
+            code_kind: h.code_kind,
+            data_root: &h.data_root,
+        }
+    }
 }

@@ -19,7 +19,7 @@ use header::header::Header;
 pub const HEAD_LEN: usize = 6;
 
 impl<'a> Record<'a> {
-    fn kind(&self) -> Kind
+    pub fn kind(&self) -> Kind
         ensures { code_of result ≡ kind_of (value_of self.now) }
     {
         match *self {
@@ -38,7 +38,7 @@ impl<'a> Record<'a> {
 fn target_fits(h: &Header, item: &Record, room: usize) -> bool
     ensures { result ≡ target_fits (fields_of h.now) (value_of item.now) room }
 {
-    let whole = HEAD_LEN + item.kind().body_len(h);
+    let whole = item.kind().record_len(h);
     parts_fit(h, item) && room == whole
 }
 
