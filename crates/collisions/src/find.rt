@@ -25,7 +25,8 @@ fn strings_fit(a: Branch<'_>, b: Branch<'_>, string_a: usize, string_b: usize) -
         && 2 * DIGEST_LEN < string_b
 }
 
-// Breaks off with the common length of the strings that collide first, which it writes, and else goes on with the ends.
+// Breaks off with the common length of the strings that collide first, which it writes, and else goes on with the ends. The buffers come
+// one by one, as clauses could not name what a `Pair` that is handed on whole holds in the end.
 fn find<H: Hash>(
     a: Branch<'_>,
     b: Branch<'_>,

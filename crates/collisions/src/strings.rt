@@ -17,13 +17,14 @@ fn put_joined(lead: u8, left: &[u8], right: &[u8], out: &mut [u8]) -> usize
     ensures len { result ≡ length (lead ∷ (left.now ++ right.now)) }
     ensures written { out.new ≡ at_front (lead ∷ (left.now ++ right.now)) out.old }
 {
+    // The buffer has room for all three.
     let _ = splice(out, 0, &[lead]);
     let _ = splice(out, 1, left);
     let _ = splice(out, 1 + left.len(), right);
     1 + left.len() + right.len()
 }
 
-// The node of a leaf's value.
+// The node of a leaf's value. `climbs::node::leaf` refuses one that is too long, and no search would have a use for that refusal.
 pub(crate) fn leaf_node<H: Hash>(value: &[u8]) -> [u8; DIGEST_LEN]
     requires { length value.now ≤ parts_limit }
     ensures { result ≡ leaf_of plain_rule H.meaning value.now }
@@ -43,7 +44,8 @@ pub(crate) fn put_leaf(value: &[u8], out: &mut [u8]) -> usize
     put_joined(LEAF, value, &[], out)
 }
 
-// Two nodes that are hashed together, the left one first.
+// Two nodes that are hashed together, the left one first. Clauses write out what is hashed, the lead byte and both nodes: a model would
+// put a name for it and hide the two fields, which `==` compares.
 #[derive(Clone, Copy, PartialEq, Eq)]
 pub(crate) struct Children {
     left: [u8; DIGEST_LEN],

@@ -32,6 +32,7 @@ pub trait Hash {
     }
 
     // Writes the digest of a whole message, with no lead byte; it refuses as `digest` does with the message as its one part.
+    // A function for both would take the lead as a slice, and save one line.
     fn hash_message(message: &[u8], out: &mut [u8]) -> Result<(), DigestRefusal>
         ensures answer { outcome told result ≡ digest_outcome (length message.now) (length out.old) }
         ensures written { out.new ≡ digest_out (length message.now) out.old (meaning message.now) }

@@ -11,7 +11,7 @@ use octets::parts::Parts;
 use std::marker::Model;
 
 // A message in parts that lie apart: `lead`, `left` and `right`, one after the other. It has at most 4,097 bytes: a lead byte, and as
-// many as the two parts of a digest may have.
+// many as the two parts of a digest may have. `Parts` has a fourth slice, for what follows a message, and no such bound.
 #[derive(Drop)]
 pub struct Message<'a> {
     lead: &'a [u8],

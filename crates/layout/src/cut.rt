@@ -16,10 +16,11 @@ fn sibling(place: usize) -> usize
     requires { place < 2 ^ 32 }
     ensures { result ≡ flip place }
 {
-    if place % 2 == 0 { place + 1 } else { place - 1 }
+    place ^ 1
 }
 
-// Writes the siblings of `place` and of the nodes above it. The tree has `n` leaves.
+// Writes the siblings of `place` and of the nodes above it. The tree has `n` leaves. It comes as a slice and its depth, as in the public
+// calls: a struct of a whole tree would serve the two functions here that read one, and not `join_all`, which writes it.
 fn copy_path(tree: &[u8], depth: usize, n: usize, place: usize, out: &mut [u8])
     requires { (n ≡ 2 ^ depth) × ((length tree.now ≡ tree_len depth) × ((place < n) × ((n < 2 ^ 32) × (length out.old ≡ digest_len * depth)))) }
     ensures { out.new ≡ path_of depth place tree.now }
@@ -30,6 +31,7 @@ fn copy_path(tree: &[u8], depth: usize, n: usize, place: usize, out: &mut [u8])
     let mut width = n;
     // By height, since a proof knows no byte of a buffer that was lent out in chunks.
     for h in 0..depth {
+        // The tree has the sibling, and the path a place for it.
         let _ = copy_entry(tree, start + sibling(place), out, h);
         start += width;
         width /= 2;
@@ -42,6 +44,7 @@ fn copy_root(tree: &[u8], depth: usize, out: &mut [u8])
     requires { (depth ≤ depth_limit) × ((length tree.now ≡ tree_len depth) × (length out.old ≡ digest_len)) }
     ensures { out.new ≡ root_of depth tree.now }
 {
+    // A tree has this entry, and the buffer is one.
     let _ = copy_entry(tree, 2 * leaves(depth) - 2, out, 0);
 }
 

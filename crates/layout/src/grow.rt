@@ -17,6 +17,7 @@ fn join_all<H: Hash>(tree: &mut [u8], depth: usize, n: usize)
 {
     // By index, since each node is read and written in the one buffer, of which no iterator lends both.
     for i in 0..n - 1 {
+        // All three entries are in the tree.
         let _ = join_entries::<H>(tree, 2 * i, 2 * i + 1, n + i);
     }
 }

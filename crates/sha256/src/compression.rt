@@ -20,7 +20,7 @@ pub struct Work {
     pub h: u32,
 }
 
-// Addition modulo 2^32.
+// Addition modulo 2^32. Clauses name it and `rot` as the standard's operations on words.
 pub(crate) fn sum(x: u32, y: u32) -> u32
     ensures { result ≡ add x y }
 {

@@ -21,7 +21,7 @@ fn put_length(buffer: &mut [u8], at: usize, len: usize)
 }
 
 // Writes the words one after the other, each with its highest byte first. SHA3-256 writes longer ones, their lowest byte first: one
-// function for both would take the conversion as a closure, and require that it may be called, to save this line.
+// function for both would take rows of bytes, and each caller would convert word by word to save this line.
 fn put_words(out: &mut [u8], words: &[u32])
     requires { length out.old ≡ 4 * length words.now }
     ensures { out.new ≡ flat_map word_bytes words.now }

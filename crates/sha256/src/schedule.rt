@@ -36,6 +36,7 @@ pub(crate) fn schedule(block: &[u8; BLOCK]) -> [u32; 64]
 {
     let mut w = [0; 64];
     let (words, _) = block.as_chunks::<4>();
+    // By place: the words fill the front of the schedule, and the next loop its rest.
     for (t, bytes) in words.iter().enumerate() {
         w[t] = u32::from_be_bytes(*bytes);
     }

@@ -24,7 +24,7 @@ pub struct State {
     pub r4: Row,
 }
 
-// The bits of x turned left by `by` places.
+// The bits of x turned left by `by` places. Clauses name it as the standard's operation on lanes.
 fn rot(x: u64, by: u32) -> u64
     ensures { result ≡ rotl x by }
 {

@@ -73,7 +73,7 @@ fn empty_state() -> State
 }
 
 // Writes the lanes one after the other, each with its lowest byte first. SHA-256 writes shorter words, their highest byte first: one
-// function for both would take the conversion as a closure, and require that it may be called, to save this line.
+// function for both would take rows of bytes, and each caller would convert lane by lane to save this line.
 fn put_lanes(out: &mut [u8], xs: &[u64])
     requires { length out.old ≡ 8 * length xs.now }
     ensures { out.new ≡ flat_map lane_bytes xs.now }
