@@ -17,6 +17,7 @@ pub fn check_proof<H: Hash, C: Code>(h: &Header, bytes: &[u8]) -> Result<(), Fra
     ensures answer { outcome told result ≡ check_outcome H.Hash.meaning C.Code.weight H.Hash.KIND C.Code.KIND (fields_of h.now) bytes.now }
     ensures accepts { Accepts H.Hash.meaning C.Code.table H.Hash.KIND C.Code.KIND (fields_of h.now) bytes.now (outcome told result) }
 {
+    // Tested here although an extraction has tested them too: there a wrong length is refused after the kinds and before the rest.
     if h.hash_kind != H::KIND {
         return Err(FraudRefusal::OtherHash);
     }

@@ -16,5 +16,6 @@ pub(crate) struct Shown<'a> {
     ghost many: { length places.now ≡ (fields_of header.now).k },
     ghost rising: { rising_below (width (fields_of header.now)) places.now ≡ true },
     ghost whole: { length records.now ≡ (fields_of header.now).k * witness_len (fields_of header.now) },
+    // Proofs know that a parameter's entries are bytes, but not those of a slice behind a field.
     ghost bytes: { (n : ℕ) → slice_index records.now n < 256 },
 }

@@ -25,6 +25,7 @@ impl<'a> Charge<'a> {
         requires { length places.old ≡ (block_of self.now).k }
         ensures { places.new ≡ places_of (case_in self.now).witnesses }
     {
+        // By number: no contract says what a slice holds after a loop over `iter_mut` beside another iterator.
         for (i, witness) in self.witnesses().enumerate() {
             places[i] = witness.place;
         }
