@@ -22,6 +22,8 @@ pub struct Index {
 
 const _: () = prove!(size_of::<Index>() == 20480);
 
+const _: () = prove!(size_of::<[Option<Place>; MOST_CELLS]>() == 49152);
+
 impl Index {
     // No share is noted.
     pub(crate) fn empty() -> Index

@@ -37,7 +37,7 @@ impl Walk {
         }
     }
 
-    // Enters the group of a line.
+    // Enters the group of a line. The reader lets no axis over 1 through, so the refusal here is never met.
     fn enter(&mut self, axis: u8, index: u16, at: usize) -> Result<(), FileRefusal>
         requires { (axis ≤ 1) × (index < width (fields_of self.old.header)) }
         ensures answer { outcome_by (after_it self.new) told result ≡ Ok (held (Inside (axis_by axis) index) self.old.index) }
@@ -50,7 +50,8 @@ impl Walk {
         Ok(())
     }
 
-    // Notes the share at a place of the line of a group.
+    // Notes the share at a place of the line of a group. The line is one of the block and the reader lets no place outside it through,
+    // so the refusal of a cell outside is never met.
     fn note(&mut self, axis: Axis, index: u16, place: u16, at: usize) -> Result<(), FileRefusal>
         requires { (index < width (fields_of self.old.header)) × ((place < width (fields_of self.old.header)) × (at ≤ file_limit)) }
         ensures answer { outcome_by (after_it self.new) told result ≡ noting self.old.point self.old.index (cell_number (fields_of self.old.header) (row_at axis index place) (col_at axis index place)) at axis }
@@ -73,7 +74,7 @@ impl Walk {
         Ok(())
     }
 
-    // What the record at a place of the file does; a refusal may leave the walk as it is.
+    // What the record at a place of the file does. The reader gives only what is due at the point, so no other record is ever met.
     fn step(&mut self, item: &Record, at: usize) -> Result<(), FileRefusal>
         requires { (in_range (fields_of self.old.header) (value_of item.now) ≡ true) × (at ≤ file_limit) }
         ensures answer { outcome_by (after_it self.new) told result ≡ go (fields_of self.old.header) self.old.point self.old.index at (value_of item.now) }

@@ -37,7 +37,8 @@ fn header_fits<H: Hash, S: Store>(h: &Header, below: &S) -> bool
         && (h.s as usize == below.share_size() && h.hash_kind == H::KIND)
 }
 
-// Asks the store below for a cell, with room of its own for a share and a path of these lengths. Gives the answer to be kept.
+// Asks the store below for a cell, with room of its own for a share and a path of these lengths, which were admitted. There is no
+// heap, so the room is that of the largest. Gives the answer to be kept.
 fn ask_below<H: Hash, S: Store>(
     h: &Header,
     below: &mut S,

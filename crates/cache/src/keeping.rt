@@ -25,7 +25,7 @@ pub(crate) fn keep(slots: &mut [Option<Kept>; PLACES], v: Kept)
 }
 
 impl Kept {
-    // Writes the share and the path into buffers of the block's lengths.
+    // Writes the share and the path into the caller's two buffers, of the block's lengths, which are those of the trait of stores.
     pub(crate) fn write(&self, share: &mut [u8], path: &mut [u8])
         requires { (length share.old ≤ 512) × (length path.old ≤ 416) }
         ensures share { share.new ≡ take (length share.old) self.now.share }

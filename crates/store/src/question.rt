@@ -6,19 +6,19 @@ ghost use Rattle.store.specs.Showing.{question_outcome};
 ghost use Rattle.std.specs.Prelude.{◌≡◌};
 
 use crate::refusal::StoreRefusal;
-use erasure::limits::ok_width;
 use header::cell::Cell;
 use header::header::Header;
+use header::refusal::SquareRefusal;
 
 // A header of this k and this share size, for lengths and cells alone.
 pub fn shape_of(k: usize, s: usize) -> Result<Header, StoreRefusal>
     ensures { outcome_by fields_of told result ≡ header_outcome (shape k s) }
 {
-    if !ok_width(k) {
-        return Err(StoreRefusal::WrongWidth);
-    }
-    // Only the share size is left to be refused.
-    Header::of_shape(k, s).or(Err(StoreRefusal::WrongShareSize))
+    // Nothing but k and the share size can be refused here.
+    Header::of_shape(k, s).map_err(|e| match e {
+        SquareRefusal::WrongWidth => StoreRefusal::WrongWidth,
+        _ => StoreRefusal::WrongShareSize,
+    })
 }
 
 // Whether a store of this k and this share size may be asked for a cell, with buffers of so many bytes for the share and the path.

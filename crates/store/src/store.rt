@@ -19,6 +19,7 @@ pub trait Store {
     // Every value has an allowed k and an allowed share size, in order or not.
     ghost bounded: { (x : Self) → Bounded (meaning x) };
 
+    // A layer passes these two on from the store below, since a store keeps no header that it could lend.
     fn half_width(&self) -> usize
         ensures { result ≡ (meaning self.now).k };
 
@@ -38,7 +39,8 @@ pub trait Store {
         )
     }
 
-    // Answers what the store means at a cell: nothing, or the proving axis, and then it writes the share and the path.
+    // Answers what the store means at a cell: nothing, or the proving axis, and then it writes the share and the path. There is no
+    // heap, so both are copied into two buffers of the caller, which are of the block's lengths and travel through every layer.
     fn show(
         &mut self,
         cell: Cell,

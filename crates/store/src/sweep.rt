@@ -17,7 +17,7 @@ use header::header::Header;
 use header::lengths::PATH_ROOM;
 use octets::misfit::Misfit;
 
-// Takes the evidence at a cell. Where there is none, the share is zeros.
+// Takes the evidence at a cell into the caller's buffers, since there is no heap. Where there is none, the share is zeros.
 fn hold<H: Hash, S: Store>(
     h: &Header,
     store: &mut S,

@@ -11,7 +11,7 @@ use header::cell::{Axis, Cell};
 use header::header::Header;
 
 // Asks a store once for a cell. Where what it shows verifies under the header, answers the proving axis; share and path then stand in
-// the buffers.
+// the caller's buffers, since there is no heap to hand them over in.
 pub fn take_evidence<H: Hash, S: Store>(
     h: &Header,
     store: &mut S,

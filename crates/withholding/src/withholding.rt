@@ -14,7 +14,7 @@ use store::question::shape_of;
 use store::refusal::StoreRefusal;
 use store::store::Store;
 
-// A store below, and for each number of a cell whether the cell is hidden.
+// A store below, and for each number of a cell whether the cell is hidden. There is no heap, so there is room for the largest square.
 #[derive(Drop)]
 pub struct Withholding<S> {
     below: S,
@@ -33,6 +33,7 @@ fn hide(hidden: &mut [bool], marks: &[u8])
     requires { length marks.now ≤ length hidden.old }
     ensures { (i : ℕ) → slice_index_or hidden.new i false ≡ (slice_index marks.now i == 1) }
 {
+    // Not by a zip, which would end with the marks: the cells behind them are shown too.
     let mut marks = marks.iter();
     for is_hidden in hidden.iter_mut() {
         *is_hidden = marks.next() == Some(&1);
@@ -52,7 +53,7 @@ impl<S: Store> Withholding<S> {
         }
     }
 
-    // Hides exactly the cells whose mark is 1. Marks are bytes, as in the files and the calls that hand them over.
+    // Hides exactly the cells whose mark is 1. Marks are bytes, as in the calls that hand them over.
     pub fn withhold(&mut self, marks: &[u8]) -> Result<(), StoreRefusal>
         ensures answer { outcome told result ≡ withhold_outcome (S.Store.meaning self.old.below) marks.now }
         ensures below { self.new.below ≡ self.old.below }
