@@ -8,4 +8,5 @@ pub mod line;
 pub mod rooms;
 pub mod roots;
 mod run;
+mod stride;
 pub mod values;

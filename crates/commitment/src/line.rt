@@ -1,5 +1,5 @@
 // The tree of one line of a square.
-ghost use Rattle.std.specs.Prelude.{◌≡◌, ℕ, ◌*◌, ◌<◌, ◌≤◌, ◌&&◌, nat_lt, ◌==◌, length, if◌then◌else◌};
+ghost use Rattle.std.specs.Prelude.{◌≡◌, ℕ, ◌+◌, ◌*◌, ◌<◌, ◌≤◌, ◌&&◌, nat_lt, ◌==◌, length, if◌then◌else◌};
 ghost use Rattle.std.specs.Result.{is_ok};
 ghost use Rattle.commitment.specs.Roots.{line_fits, line_leaf, line_tree};
 ghost use Rattle.hash.specs.Digests.{digest_len};
@@ -8,23 +8,28 @@ ghost use Rattle.header.specs.Sizes.{axis_tree_len, cell_on, line_count};
 ghost use Rattle.merkle.specs.Climb.{slot};
 
 use crate::cells::Cells;
-use crate::values::leaf;
+use crate::stride::{Stride, put_leaves};
 use hash::digest::Hash;
 use header::header::Header;
-use layout::entry::put_entry;
+use header::lengths::Lengths;
 use layout::grow::grow;
 use octets::misfit::Misfit;
 
-// In a square of this width, the number of the cell at place p of line n. A line goes by its leaf in the data tree: rows come first,
-// then columns.
-fn cell_on(width: usize, n: usize, p: usize) -> usize
-    requires { (width ≤ 64) × ((n < 2 * width) × (p < width)) }
-    ensures { result ≡ cell_on width n p }
+// In a square of this width, the cells of line n. A line goes by its leaf in the data tree: rows come first, then columns.
+fn cells_of(width: usize, n: usize) -> Stride
+    requires { (width ≤ 64) × (n < 2 * width) }
+    ensures { (p : ℕ) → result.first + p * result.step ≡ cell_on width n p }
 {
     if n < width {
-        n * width + p
+        Stride {
+            first: n * width,
+            step: 1,
+        }
     } else {
-        p * width + (n - width)
+        Stride {
+            first: n - width,
+            step: width,
+        }
     }
 }
 
@@ -35,16 +40,8 @@ impl Cells<'_> {
         requires room { digest_len * self.now.lengths.width ≤ length entries.old }
         ensures { (j : ℕ) → j < self.now.lengths.width → slot j entries.new ≡ line_leaf H.meaning self.now.lengths.width self.now.lengths.share self.now.shares.now n j }
     {
-        let width = self.lengths.width;
-        // By index: of a loop over a buffer's mutable chunks no proof sees what the buffer holds.
-        for p in 0..width {
-            let cell = cell_on(width, n, p);
-            let _ = put_entry(
-                entries,
-                p,
-                &leaf::<H>(self.shares, self.lengths.share, cell),
-            );
-        }
+        let Lengths { width, share, .. } = self.lengths;
+        put_leaves::<H>(self.shares, share, cells_of(width, n), width, entries);
     }
 
     // Lays out the tree of line n. Where the block has no such line, or the buffer is not a line's tree, it refuses and writes nothing.

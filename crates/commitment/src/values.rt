@@ -10,26 +10,16 @@ ghost use Rattle.merkle.specs.Tree.{root};
 
 use crate::rooms::DATA_TREE_ROOM;
 use crate::run::Run;
-use climbs::node;
+use crate::stride::{Stride, put_leaves};
 use hash::digest::Hash;
 use hash::limits::DIGEST_LEN;
 use layout::cut::tree_root;
-use layout::entry::put_entry;
 use layout::grow::grow;
 use layout::size::{is_tree, leaves};
 use octets::misfit::Misfit;
 
 // Levels of the deepest data tree above its leaves.
 const DATA_DEPTH: usize = 7;
-
-// The digest of the value with number `n`, of `size` bytes.
-pub(crate) fn leaf<H: Hash>(values: &[u8], size: usize, n: usize) -> [u8; DIGEST_LEN]
-    requires { (size ≤ parts_limit) × ((n < 2 ^ 32) × (n * size + size ≤ length values.now)) }
-    ensures { result ≡ value_leaf H.meaning size values.now n }
-{
-    // No value here is too long, so what stands for a refusal is never given.
-    node::leaf::<H>(&values[n * size..n * size + size]).unwrap_or([0u8; DIGEST_LEN])
-}
 
 // Grows the tree over the digests in front of `tree` and gives its root.
 pub(crate) fn grown_root<H: Hash>(tree: &mut [u8], depth: usize) -> [u8; DIGEST_LEN]
@@ -49,10 +39,13 @@ impl Run<'_> {
         requires { digest_len * 2 ^ self.now.depth ≤ length entries.old }
         ensures { (j : ℕ) → j < 2 ^ self.now.depth → slot j entries.new ≡ value_leaf H.meaning self.now.size self.now.values.now j }
     {
-        // By index: of a loop over a buffer's mutable chunks no proof sees what the buffer holds.
-        for i in 0..leaves(self.depth) {
-            let _ = put_entry(entries, i, &leaf::<H>(self.values, self.size, i));
-        }
+        put_leaves::<H>(
+            self.values,
+            self.size,
+            Stride { first: 0, step: 1 },
+            leaves(self.depth),
+            entries,
+        );
     }
 
     // The root of the tree over the values.

@@ -4,7 +4,7 @@ use Rattle.octets.proofs.Shares.{share_read}
 use Rattle.hash.specs.Digests.{parts_limit}
 use Rattle.merkle.specs.Climb.{plain_rule, leaf_of}
 use Rattle.commitment.proofs.Trees.{leaf_given}
-use Rattle.commitment.proofs.values.leaf.Goals as goal
+use Rattle.commitment.proofs.stride.leaf.Goals as goal
 
 pub returns : goal.returns
 returns g c =
