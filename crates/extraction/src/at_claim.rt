@@ -11,14 +11,13 @@ ghost use Rattle.merkle.specs.Climb.{from_leaf, slot};
 use crate::comparison::Comparison;
 use collisions::branch::{Branch, Pair};
 use collisions::find::find_collision;
+use commitment::rooms::DATA_TREE_ROOM;
 use commitment::values::value_tree;
 use hash::digest::Hash;
 use hash::limits::DIGEST_LEN;
 use layout::cut::tree_path;
 
-// The tree over the most roots, and the longest path in it. The library allocates nothing, so smaller ones take the front of as much.
-const TREE_ROOM: usize = 8160;
-
+// The longest path in the data tree. The library allocates nothing, so a shorter one takes the front of as much.
 const PATH_ROOM: usize = 224;
 
 impl Comparison<'_> {
@@ -81,7 +80,7 @@ impl Comparison<'_> {
         ensures { let line = line_number (block_of self.now.charge) (axis_by self.now.charge.proof.axis) self.now.charge.proof.index in Finds H.meaning (claim_rungs (block_of self.now.charge) (case_in self.now.charge).claim) (from_leaf (depth (block_of self.now.charge) + 1) line (data_path H.meaning (block_of self.now.charge) self.now.roots.now line)) self.now.charge.proof.root.now (slot line self.now.roots.now) result string_a.old string_b.old string_a.new string_b.new }
     {
         let n = self.charge.header.lengths();
-        let mut tree = [0u8; TREE_ROOM];
+        let mut tree = [0u8; DATA_TREE_ROOM];
         let mut own = [0u8; PATH_ROOM];
         self.compare_roots::<H>(
             &mut tree[0..n.data_tree],

@@ -17,9 +17,7 @@ use evidence::write::evidence_of;
 use fraudproof::witness::Witness;
 use hash::digest::Hash;
 use header::cell::{Axis, Cell};
-
-// The longest path of an evidence. The library allocates nothing, so a shorter one takes the front of as much.
-const PATH_ROOM: usize = 416;
+use header::lengths::PATH_ROOM;
 
 impl Comparison<'_> {
     // Compares the climb of a share by a path with the square's own climb, from a cell along an axis; the square's path is written to

@@ -21,9 +21,7 @@ use fraud::refusal::FraudRefusal;
 use fraudproof::read::read_proof;
 use hash::digest::Hash;
 use header::header::Header;
-
-// The roots of the largest square.
-const ROOTS_ROOM: usize = 4096;
+use header::lengths::ROOTS_ROOM;
 
 // Reads an accepted proof once more and compares it with the square.
 fn extract_from<'x, H: Hash>(
@@ -95,6 +93,7 @@ pub fn extract<H: Hash, C: Code>(
     ensures collision { AlwaysInHand H.Hash.meaning (outcome told result) string_a.new string_b.new }
     ensures gives { AlwaysGives H.Hash.meaning C.Code.table H.Hash.KIND C.Code.KIND (fields_of h.now) shares.now bytes.now (length string_a.old) (length string_b.old) (length scratch.old) (outcome told result) string_a.new string_b.new }
 {
+    // Tested before the lengths, as the order of the refusals is; checking the proof, which comes later, tests the kinds on its own.
     if h.hash_kind != H::KIND {
         return Err(FraudRefusal::OtherHash);
     }
@@ -111,6 +110,7 @@ pub fn extract<H: Hash, C: Code>(
         return Err(FraudRefusal::WrongLength);
     }
     let len = h.lengths().roots;
+    // The library allocates nothing, so the roots of a smaller square take the front of as much.
     let mut roots = [0u8; ROOTS_ROOM];
     extract_with::<H, C>(
         h,

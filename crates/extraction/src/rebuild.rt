@@ -24,7 +24,8 @@ fn is_header_of<H: Hash>(h: &Header, roots: &[u8]) -> bool
     value_root::<H>(roots, DIGEST_LEN, depth + 1) == Some(h.data_root)
 }
 
-// Extends the data to the square, writes its roots, and answers whether the header is theirs.
+// Extends the data to the square, writes its roots, and answers whether the header is theirs. A bool: they are written
+// either way, and an extraction has but one refusal for it.
 pub(crate) fn rebuild<H: Hash, C: Code>(
     h: &Header,
     shares: &[u8],

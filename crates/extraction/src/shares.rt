@@ -12,7 +12,7 @@ use header::cell::Cell;
 
 impl<'a> Comparison<'a> {
     // The square's share of a cell. The cell is inside, so its number is worked out here: that of a header would be an Option that is
-    // never none.
+    // never none, and a climb from the cell needs a share.
     pub(crate) fn cell_share(&self, cell: Cell) -> &'a [u8]
         requires { (cell.row < width (block_of self.now.charge)) × (cell.col < width (block_of self.now.charge)) }
         ensures { result.now ≡ cell_share (block_of self.now.charge) self.now.square.now cell.row cell.col }
@@ -36,6 +36,7 @@ impl<'a> Comparison<'a> {
         ensures value { some_values result ≡ first_against (agrees (block_of self.now.charge) self.now.square.now (case_in self.now.charge).claim) (case_in self.now.charge).witnesses }
         ensures sound { IfSome result (λ w. Sound (block_of self.now.charge) (values_of w)) }
     {
+        // No `find`: `has_share` asks that the place is on the line, which a closure would not know of a witness that it is given.
         for w in self.charge.witnesses() {
             if !self.has_share(&w) {
                 return Some(w);
