@@ -39,8 +39,8 @@ pub(crate) fn put_leaves<H: Hash>(
     requires room { digest_len * count ≤ length entries.old }
     ensures { (j : ℕ) → j < count → slot j entries.new ≡ value_leaf H.meaning size values.now (stride.first + j * stride.step) }
 {
-    // By index: of a loop over a buffer's mutable chunks no proof sees what the buffer holds. There is
-    // room for each entry, so none is refused.
+    // By index: of a loop over a buffer's mutable chunks no proof sees what the buffer holds. There is room for
+    // each entry, so none is refused.
     for j in 0..count {
         let n = stride.first + j * stride.step;
         let _ = put_entry(entries, j, &leaf::<H>(values, size, n));

@@ -1,8 +1,8 @@
 // Trees over values that lie one after the other.
-ghost use Rattle.std.specs.Prelude.{◌≡◌, ℕ, ◌+◌, ◌*◌, ◌^◌, ◌<◌, ◌≤◌, length, if◌then◌else◌, Some, None};
+ghost use Rattle.std.specs.Prelude.{◌≡◌, ℕ, ◌*◌, ◌^◌, ◌<◌, ◌≤◌, length, if◌then◌else◌, Some, None};
 ghost use Rattle.std.specs.Result.{is_ok};
 ghost use Rattle.commitment.specs.Values.{root_fits, tree_fits, value_leaf, value_root, value_tree};
-ghost use Rattle.hash.specs.Digests.{digest_len, parts_limit};
+ghost use Rattle.hash.specs.Digests.{digest_len};
 ghost use Rattle.layout.specs.Answers.{depth_limit};
 ghost use Rattle.merkle.specs.Climb.{join_of, plain_rule, slot};
 ghost use Rattle.merkle.specs.Layout.{tree_len};

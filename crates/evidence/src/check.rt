@@ -1,5 +1,5 @@
 // Checking a share against a header.
-ghost use Rattle.std.specs.Prelude.{◌≡◌, ◌+◌, ◌*◌, ◌<◌, ◌≤◌, length};
+ghost use Rattle.std.specs.Prelude.{◌≡◌, ◌+◌, ◌*◌, ◌≤◌, length};
 ghost use Rattle.octets.specs.Outcome.{outcome};
 ghost use Rattle.evidence.specs.Evidence.{check_outcome, verifies};
 ghost use Rattle.hash.specs.Digests.{digest_len, parts_limit};
