@@ -1,15 +1,23 @@
 -- Where the parts of an image stand.
-use Rattle.std.proofs.Common.{◌≡◌, ℕ, ◌+◌, ◌-◌, ◌*◌, ◌<◌, ◌≤◌, true, false, cond, not, eqb, List, length, take, drop, Ok, Err, length-drop, inl, inr, sym, ap, ap₂, ◌∙◌, arith}
+use Rattle.std.proofs.Common.{◌≡◌, ℕ, ◌+◌, ◌-◌, ◌*◌, ◌<◌, ◌≤◌, Bool, true, false, cond, not, eqb, List, Some, None, Option, length, take, drop, Ok, Err, length-drop, inl, inr, sym, ap, ap₂, ◌∙◌, arith}
 use Rattle.std.proofs.lemmas.Nat.{mul-add-lt, mul-le}
 use Rattle.std.proofs.lemmas.Bool.{or_cases, eqb-true}
 use Rattle.octets.proofs.Shares.{share_inside}
 use Rattle.std.proofs.lemmas.List.{length-take-le}
 use Rattle.octets.specs.Outcome.{plain}
 use Rattle.header.specs.Fields.{Fields, shape, header_outcome}
-use Rattle.header.specs.Sizes.{image_len}
+use Rattle.header.specs.Sizes.{image_len, cell_number, has_cell, number_of}
 use Rattle.header.proofs.Made.{made}
 use Rattle.store.specs.Meaning.{block}
 use Rattle.memory.specs.Images.{image_held, open_outcome}
+
+-- the number of a cell that has one
+pub numbered : (h : Fields) (r c n : ℕ) → Some n ≡ number_of h r c → n ≡ cell_number h r c
+numbered h r c n e = by_case (has_cell h r c) (cell_number h r c) e
+  where
+    by_case : (b : Bool) (m : ℕ) → ◌≡◌ {A = Option ℕ} (Some n) (cond b (Some m) None) → n ≡ m
+    by_case true m e = cc
+    by_case false m e = let z : ◌≡◌ {A = ℕ} 0 1 = cc in absurd (omega arith)
 
 -- the share of cell (r, c) in a square of width w
 pub record Spot (w s r c : ℕ) : Type 0 where

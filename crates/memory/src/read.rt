@@ -18,8 +18,11 @@ pub(crate) fn put_share(h: &Header, image: &[u8], cell: Cell, out: &mut [u8])
     ensures { out.new ≡ cell_share (fields_of h.now) image.now cell.row cell.col }
 {
     let n = h.lengths();
-    // The cell is inside, so its number is no Option here.
-    let at = (cell.row as usize * n.width + cell.col as usize) * n.share;
+    // Never met: the cell is inside.
+    let Some(number) = h.cell_number(cell) else {
+        return;
+    };
+    let at = number * n.share;
     out.copy_from_slice(&image[at..at + n.share]);
 }
 
