@@ -1,6 +1,7 @@
 // Finding the collision of two climbs that end alike.
 ghost use Rattle.std.specs.Prelude.{◌≡◌, ◌-◌, ◌≤◌, true, false, length, None};
 ghost use Rattle.std.specs.ControlFlow.{ForContinue, break_value};
+ghost use Rattle.std.specs.Result.{is_ok, result_unwrap_or};
 ghost use Rattle.collisions.specs.Finding.{Ends, Finds, Fitting, search_fits, strings_fit, two_fit};
 ghost use Rattle.merkle.specs.Climb.{climb, from_leaf, levels, plain_rule, through_two};
 
@@ -9,6 +10,7 @@ use crate::search::search_nodes;
 use crate::strings::{leaf_node, put_leaf};
 use hash::digest::Hash;
 use hash::limits::{DIGEST_LEN, PARTS_LIMIT};
+use octets::misfit::Misfit;
 use std::ops::ControlFlow;
 
 // Whether a search takes these leaves, and buffers for strings of these lengths.
@@ -57,17 +59,18 @@ fn find<H: Hash>(
 
 // Compares the climbs from two leaves at one place, and at the first level where what is hashed differs and the digests agree writes
 // both strings to the fronts of `strings` and answers their common length. Where there is no such level it answers none and writes
-// the ends of the climbs, from which another tree may be climbed. Where the lengths do not fit it answers none and writes nothing.
+// the ends of the climbs, from which another tree may be climbed. Where the lengths do not fit it refuses and writes nothing.
 pub fn find_collision<H: Hash>(
     a: Branch<'_>,
     b: Branch<'_>,
     place: usize,
     ends: Pair<'_>,
     strings: Pair<'_>,
-) -> Option<usize>
-    ensures finds { search_fits (length a.entry.value.now) (length b.entry.value.now) (length a.entry.path.now) (length b.entry.path.now) (length ends.entry.a.now) (length ends.entry.b.now) (length strings.entry.a.now) (length strings.entry.b.now) ≡ true → Finds H.meaning (from_leaf (levels a.entry.path.now) place a.entry.path.now) (from_leaf (levels b.entry.path.now) place b.entry.path.now) a.entry.value.now b.entry.value.now result strings.entry.a.now strings.entry.b.now strings.exit.0.now strings.exit.1.0.now }
+) -> Result<Option<usize>, Misfit>
+    ensures answer { is_ok result ≡ search_fits (length a.entry.value.now) (length b.entry.value.now) (length a.entry.path.now) (length b.entry.path.now) (length ends.entry.a.now) (length ends.entry.b.now) (length strings.entry.a.now) (length strings.entry.b.now) }
+    ensures finds { search_fits (length a.entry.value.now) (length b.entry.value.now) (length a.entry.path.now) (length b.entry.path.now) (length ends.entry.a.now) (length ends.entry.b.now) (length strings.entry.a.now) (length strings.entry.b.now) ≡ true → Finds H.meaning (from_leaf (levels a.entry.path.now) place a.entry.path.now) (from_leaf (levels b.entry.path.now) place b.entry.path.now) a.entry.value.now b.entry.value.now (result_unwrap_or result None) strings.entry.a.now strings.entry.b.now strings.exit.0.now strings.exit.1.0.now }
     ensures ends { search_fits (length a.entry.value.now) (length b.entry.value.now) (length a.entry.path.now) (length b.entry.path.now) (length ends.entry.a.now) (length ends.entry.b.now) (length strings.entry.a.now) (length strings.entry.b.now) ≡ true → Ends H.meaning (from_leaf (levels a.entry.path.now) place a.entry.path.now) (from_leaf (levels b.entry.path.now) place b.entry.path.now) a.entry.value.now b.entry.value.now ends.entry.a.now ends.entry.b.now ends.exit.0.now ends.exit.1.0.now }
-    ensures unfit { search_fits (length a.entry.value.now) (length b.entry.value.now) (length a.entry.path.now) (length b.entry.path.now) (length ends.entry.a.now) (length ends.entry.b.now) (length strings.entry.a.now) (length strings.entry.b.now) ≡ false → (result ≡ None) × (ends.exit.0.now ≡ ends.entry.a.now) × (ends.exit.1.0.now ≡ ends.entry.b.now) × (strings.exit.0.now ≡ strings.entry.a.now) × (strings.exit.1.0.now ≡ strings.entry.b.now) }
+    ensures unfit { search_fits (length a.entry.value.now) (length b.entry.value.now) (length a.entry.path.now) (length b.entry.path.now) (length ends.entry.a.now) (length ends.entry.b.now) (length strings.entry.a.now) (length strings.entry.b.now) ≡ false → (ends.exit.0.now ≡ ends.entry.a.now) × (ends.exit.1.0.now ≡ ends.entry.b.now) × (strings.exit.0.now ≡ strings.entry.a.now) × (strings.exit.1.0.now ≡ strings.entry.b.now) }
 {
     let Pair { a: end_a, b: end_b } = ends;
     let Pair {
@@ -78,14 +81,14 @@ pub fn find_collision<H: Hash>(
         || end_a.len() != DIGEST_LEN
         || end_b.len() != DIGEST_LEN
     {
-        return None;
+        return Err(Misfit);
     }
     match find::<H>(a, b, place, string_a, string_b) {
-        ControlFlow::Break(len) => Some(len),
+        ControlFlow::Break(len) => Ok(Some(len)),
         ControlFlow::Continue(nodes) => {
             end_a.copy_from_slice(&nodes.0);
             end_b.copy_from_slice(&nodes.1);
-            None
+            Ok(None)
         }
     }
 }
@@ -134,16 +137,17 @@ pub fn find_collision_through<H: Hash>(
     place: usize,
     next_place: usize,
     strings: Pair<'_>,
-) -> Option<usize>
-    ensures finds { two_fit depth (length a.entry.value.now) (length b.entry.value.now) (length a.entry.path.now) (length b.entry.path.now) (length strings.entry.a.now) (length strings.entry.b.now) ≡ true → Finds H.meaning (through_two depth place (levels a.entry.path.now - depth) next_place a.entry.path.now) (through_two depth place (levels b.entry.path.now - depth) next_place b.entry.path.now) a.entry.value.now b.entry.value.now result strings.entry.a.now strings.entry.b.now strings.exit.0.now strings.exit.1.0.now }
-    ensures unfit { two_fit depth (length a.entry.value.now) (length b.entry.value.now) (length a.entry.path.now) (length b.entry.path.now) (length strings.entry.a.now) (length strings.entry.b.now) ≡ false → (result ≡ None) × (strings.exit.0.now ≡ strings.entry.a.now) × (strings.exit.1.0.now ≡ strings.entry.b.now) }
+) -> Result<Option<usize>, Misfit>
+    ensures answer { is_ok result ≡ two_fit depth (length a.entry.value.now) (length b.entry.value.now) (length a.entry.path.now) (length b.entry.path.now) (length strings.entry.a.now) (length strings.entry.b.now) }
+    ensures finds { two_fit depth (length a.entry.value.now) (length b.entry.value.now) (length a.entry.path.now) (length b.entry.path.now) (length strings.entry.a.now) (length strings.entry.b.now) ≡ true → Finds H.meaning (through_two depth place (levels a.entry.path.now - depth) next_place a.entry.path.now) (through_two depth place (levels b.entry.path.now - depth) next_place b.entry.path.now) a.entry.value.now b.entry.value.now (result_unwrap_or result None) strings.entry.a.now strings.entry.b.now strings.exit.0.now strings.exit.1.0.now }
+    ensures unfit { two_fit depth (length a.entry.value.now) (length b.entry.value.now) (length a.entry.path.now) (length b.entry.path.now) (length strings.entry.a.now) (length strings.entry.b.now) ≡ false → (strings.exit.0.now ≡ strings.entry.a.now) × (strings.exit.1.0.now ≡ strings.entry.b.now) }
 {
     let Pair {
         a: string_a,
         b: string_b,
     } = strings;
     if !strings_fit(a, b, string_a.len(), string_b.len()) || depth > a.path.len() / DIGEST_LEN {
-        return None;
+        return Err(Misfit);
     }
-    find_in_two::<H>(a, b, depth, place, next_place, string_a, string_b).break_value()
+    Ok(find_in_two::<H>(a, b, depth, place, next_place, string_a, string_b).break_value())
 }

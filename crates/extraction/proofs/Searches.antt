@@ -2,7 +2,7 @@
 use Rattle.std.proofs.Common.{◌≡◌, ℕ, ◌+◌, ◌-◌, ◌*◌, ◌/◌, ◌%◌, ◌≤◌, true, List, length, Option, sym, ap, ◌∙◌, subst, arith}
 use Rattle.std.proofs.lemmas.Bool.{and_from, eq-eqb, le-leb, lt-ltb}
 use Rattle.hash.specs.Digests.{digest_len, parts_limit}
-use Rattle.merkle.specs.Climb.{levels, from_leaf, through_two}
+use Rattle.merkle.specs.Climb.{Rung, levels, from_leaf, through_two}
 use Rattle.collisions.specs.Finding.{Finds, Fitting, strings_fit, search_fits, two_fit}
 use Rattle.header.specs.declared.cell.Axis.{Axis}
 use Rattle.header.specs.Fields.{Fields}
@@ -73,3 +73,7 @@ finds_claim f n p p' v w w' path own own' o x y x' y' long long' at e same finds
     subst (λ rs. Finds f rs (from_leaf n p' own') v w' o x y x' y') (ap (λ m. from_leaf m p path) a ∙ ap (λ q. from_leaf n q path) at)
     (subst (λ qs. Finds f (from_leaf (levels path) p path) qs v w' o x y x' y') (ap (λ m. from_leaf m p own) b ∙ ap (λ q. from_leaf n q own) at ∙ ap (from_leaf n p') same)
     (subst (λ u. Finds f (from_leaf (levels path) p path) (from_leaf (levels own) p own) v u o x y x' y') e finds))
+
+-- what a search answers may be named anew
+pub answered : {f : List ℕ → List ℕ} {rs qs : List Rung} {v w : List ℕ} {r r' : Option ℕ} {x y x' y' : List ℕ} → r' ≡ r → Finds f rs qs v w r x y x' y' → Finds f rs qs v w r' x y x' y'
+answered {f = f} {rs = rs} {qs = qs} {v = v} {w = w} {x = x} {y = y} {x' = x'} {y' = y'} e h = subst (λ o. Finds f rs qs v w o x y x' y') (sym e) h

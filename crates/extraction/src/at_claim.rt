@@ -49,6 +49,7 @@ impl Comparison<'_> {
         let at = DIGEST_LEN * line;
         let mut end_a = [0u8; DIGEST_LEN];
         let mut end_b = [0u8; DIGEST_LEN];
+        // The lengths fit, so that it is never refused.
         find_collision::<H>(
             Branch {
                 value: self.charge.proof.root,
@@ -68,6 +69,7 @@ impl Comparison<'_> {
                 b: string_b,
             },
         )
+        .unwrap_or(None)
     }
 
     // The same with room of its own.

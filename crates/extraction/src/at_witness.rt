@@ -40,6 +40,7 @@ impl Comparison<'_> {
         let h = self.charge.header;
         let depth = h.lengths().depth;
         let _ = evidence_of::<H>(h, self.square, self.roots, cell, axis, own);
+        // The lengths fit, so that it is never refused.
         find_collision_through::<H>(
             shown,
             Branch {
@@ -54,6 +55,7 @@ impl Comparison<'_> {
                 b: string_b,
             },
         )
+        .unwrap_or(None)
     }
 
     // Compares the climb of a witness with the square's own climb from the witness's cell, along the witness's axis.

@@ -7,7 +7,7 @@ use Rattle.fraud.specs.Charge.{block_of}
 use Rattle.header.specs.Sizes.{width, depth, cell_number, path_len, line_number}
 use Rattle.evidence.specs.Paths.{cell_share, evidence_path}
 use Rattle.extraction.proofs.Fitting.{evidence_granted}
-use Rattle.extraction.proofs.Searches.{two_fits, finds_evidence}
+use Rattle.extraction.proofs.Searches.{answered, two_fits, finds_evidence}
 use Rattle.extraction.proofs.comparison.Comparison.compare_evidence.Goals as goal
 
 pub returns : goal.returns
@@ -32,8 +32,8 @@ returns g c =
     let long : length c.evidence_of.new.path ≡ path_len x = c.evidence_of.auto.path ∙ p.1.1 in
     let size : length c.cell_share.result.now ≡ h.s =
     ap length c.cell_share.ensures ∙ share_length h.s (cell_number x r col) (width x * width x) sq s.squared (cell_below (width x) (width x) r col cell.0 cell.1) in
-    finds_evidence x axis r col c.lengths-depth.result.depth c.place.result c.line_number.result deep c.place.ensures (c.line_number.ensures ∙ ap (line_number x axis) c.line.ensures)
+    answered c.unwrap_or.ensures (finds_evidence x axis r col c.lengths-depth.result.depth c.place.result c.line_number.result deep c.place.ensures (c.line_number.ensures ∙ ap (line_number x axis) c.line.ensures)
     f shown.value.now c.cell_share.result.now (cell_share x sq r col) shown.path.now c.evidence_of.new.path _ _ _ _ _ _
     p.1.0 long c.cell_share.ensures own
     (c.find_collision_through.ensures.finds
-    (two_fits c.lengths-depth.result.depth h.s (2 * depth x + 1) _ _ _ _ _ _ (omega arith) (size_most h.s h.size) p.0 size p.1.0 long c.requires.strings.0 c.requires.strings.1))
+    (two_fits c.lengths-depth.result.depth h.s (2 * depth x + 1) _ _ _ _ _ _ (omega arith) (size_most h.s h.size) p.0 size p.1.0 long c.requires.strings.0 c.requires.strings.1)))
