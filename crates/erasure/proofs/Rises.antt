@@ -1,7 +1,11 @@
 -- Strictly increasing places below 2k are places of a codeword, no two alike.
-use Rattle.std.proofs.Common.{◌≡◌, ℕ, zero, suc, ◌+◌, ◌*◌, ◌<◌, ◌≤◌, true, false, ◌&&◌, ltb, leb, ◌≢◌, ◌⊎◌, List, [], ◌∷◌, length, refl, ap, ◌∙◌, inl, inr, le_of_suc-le-suc, not-suc-le-zero, arith}
+use Rattle.std.proofs.Common.{◌≡◌, ℕ, zero, suc, ◌+◌, ◌*◌, ◌<◌, ◌≤◌, true, ◌&&◌, ltb, leb, ◌≢◌, List, [], ◌∷◌, length, refl, ap, ◌∙◌, le_of_suc-le-suc, suc-le-suc, zero-lt-suc, not-suc-le-zero, arith}
 use native.Mathlib.Decide.{dec_lt}
-use Rattle.std.proofs.lemmas.Bool.{and_parts, and_right, leb-true, ltb-true, le-leb, lt-leb, lt-ltb, le-ltb}
+use Rattle.std.proofs.lemmas.Bool.{and_parts, leb-true, ltb-true, le-leb, lt-ltb, and_from}
+use Rattle.std.specs.Cmp.{both_ways}
+use Rattle.std.specs.List.{list_all}
+use Rattle.std.proofs.lemmas.List.{get_or_default}
+use Rattle.std.proofs.lemmas.List.Sums.{AllPass-from_list_all, list_all-from_AllPass}
 use Rattle.codes.specs.Code.{Places}
 use Rattle.codes.specs.Words.{at}
 use Rattle.erasure.specs.Places.{rising_from, rising_below}
@@ -45,15 +49,24 @@ rising_places k ps long h =
           | no n ↦ let u : at ps j < at ps i = rising_up 0 (2 * k) ps h j i (omega arith) (omega arith) in omega arith
         ]
 
--- ---- looking at one place after the other
+-- ---- neighbours that rise, and all below w
 
-pub rising_next : (low w p : ℕ) (ps : List ℕ) → low ≤ p → p < w → rising_from low w (p ∷ ps) ≡ rising_from (p + 1) w ps
+pub rising_from_each : (low w : ℕ) (ps : List ℕ) → (0 < length ps → low ≤ at ps 0) → ((k : ℕ) → suc k < length ps → at ps k < at ps (suc k))
+    → ((k : ℕ) → k < length ps → at ps k < w) → rising_from low w ps ≡ true
 unfolding rising_from
-rising_next low w p ps a b =
-    ap (λ t. t && (ltb p w && rising_from (p + 1) w ps)) (le-leb low p a) ∙ ap (λ t. t && rising_from (p + 1) w ps) (lt-ltb p w b)
+rising_from_each low w [] first rises below = refl
+rising_from_each low w (p ∷ ps) first rises below =
+    and_from (leb low p) (ltb p w && rising_from (p + 1) w ps) (le-leb low p (first (zero-lt-suc (length ps))))
+    (and_from (ltb p w) (rising_from (p + 1) w ps) (lt-ltb p w (below 0 (zero-lt-suc (length ps))))
+    (rising_from_each (p + 1) w ps
+    (λ l. let u : p < at ps 0 = rises 0 (suc-le-suc l) in omega arith)
+    (λ k l. rises (suc k) (suc-le-suc l))
+    (λ k l. below (suc k) (suc-le-suc l))))
 
-pub rising_stops : (low w p : ℕ) (ps : List ℕ) → (p < low) ⊎ (w ≤ p) → rising_from low w (p ∷ ps) ≡ false
-unfolding rising_from
-rising_stops low w p ps (inl a) = ap (λ t. t && (ltb p w && rising_from (p + 1) w ps)) (lt-leb low p a)
-rising_stops low w p ps (inr b) =
-    ap (λ t. leb low p && (t && rising_from (p + 1) w ps)) (le-ltb p w b) ∙ and_right (leb low p) false refl
+-- so of places that rise, those are places below w whose elements are
+pub rising_is_below : (w : ℕ) (ps : List ℕ) → ((k : ℕ) → suc k < length ps → at ps k < at ps (suc k)) → list_all (λ p. ltb p w) ps ≡ rising_below w ps
+rising_is_below w ps rises =
+    both_ways (list_all (λ p. ltb p w) ps) (rising_below w ps)
+    (λ h. rising_from_each 0 w ps (λ l. omega arith) rises (λ k l. ltb-true (at ps k) w (AllPass-from_list_all (λ p. ltb p w) ps h k 0 l)))
+    (λ h. list_all-from_AllPass (λ p. ltb p w) ps
+    (λ k d l. ap (λ x. ltb x w) (get_or_default ps k d 0 l) ∙ lt-ltb (at ps k) w (rising_within 0 w ps h k l).1))

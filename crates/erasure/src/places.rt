@@ -1,18 +1,18 @@
 // Lists of places.
 ghost use Rattle.erasure.specs.Places.{rising_below};
-ghost use Rattle.std.specs.Prelude.{◌≡◌};
+ghost use Rattle.std.specs.Prelude.{◌≡◌, nat_lt};
+ghost use Rattle.std.specs.List.{list_all};
+
+// Whether all places are below w.
+fn all_below(places: &[u16], w: usize) -> bool
+    ensures { result ≡ list_all (λ p. nat_lt p w) places.now }
+{
+    places.iter().all(|place| (*place as usize) < w)
+}
 
 // Whether the places are strictly increasing and below w.
 pub fn are_rising(places: &[u16], w: usize) -> bool
     ensures { result ≡ rising_below w places.now }
 {
-    let mut low = 0usize;
-    for p in places {
-        let place = *p as usize;
-        if place < low || place >= w {
-            return false;
-        }
-        low = place + 1;
-    }
-    true
+    places.is_sorted_by(|a, b| a < b) && all_below(places, w)
 }

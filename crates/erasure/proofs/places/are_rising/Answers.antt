@@ -1,21 +1,22 @@
-use Rattle.std.proofs.Common.{get_or, sym, ◌∙◌, inl, inr, ⊎_elim}
-use Rattle.std.proofs.lemmas.List.{at_drop_more, at_drop_all}
-use Rattle.erasure.specs.Places.{rising_from}
-use Rattle.erasure.proofs.Rises.{rising_next, rising_stops}
+use Rattle.std.proofs.Common.{◌≡◌, ℕ, suc, ◌+◌, ◌<◌, ltb, List, sym, ◌∙◌, subst, arith, rules}
+use Rattle.std.proofs.lemmas.Bool.{false≢true, MatchBool-at_true, MatchBool-at_false, false_from_ne_true, lt-ltb, ltb-true}
+use Rattle.std.proofs.lemmas.List.Sorted.{answers_always}
+use Rattle.codes.specs.Words.{at}
+use Rattle.erasure.proofs.Rises.{rising_up, rising_is_below}
 use Rattle.erasure.proofs.places.are_rising.Goals as goal
 
-pub returns-then-place-low : goal.returns-then-place-low
-returns-then-place-low c =
-    sym (sym c.loop-p.invariant ∙ at_drop_more (rising_from c.loop-p.low c.args.w) c.args.places.now c.loop-p.p-index 0 c.loop-p-test.true
-    ∙ rising_stops c.loop-p.low c.args.w (get_or c.args.places.now c.loop-p.p-index 0) _
-    (⊎_elim inl (λ b. inr b.1) c.then-place-low.either))
+pub returns-else-is_sorted_by : goal.returns-else-is_sorted_by
+returns-else-is_sorted_by c =
+    let ps : List ℕ = c.args.places.now in
+    let e = MatchBool-at_false _ _ c.if-is_sorted_by.false (c.is_sorted_by.ensures.cases (λ x y. ltb x y) (answers_always _ _ _ (λ f a r g h. search rules))) in
+    c.if-is_sorted_by.false
+    ∙ sym (false_from_ne_true _ (λ h. false≢true (e.2 0 ∙ lt-ltb (at ps e.0) (at ps (e.0 + 1)) (rising_up 0 c.args.w ps h e.0 (e.0 + 1) (omega arith) e.1))))
 
-pub loop-p-preserved : goal.loop-p-preserved
-loop-p-preserved c =
-    sym (at_drop_more (rising_from c.loop-p.low c.args.w) c.args.places.now c.loop-p.p-index 0 c.loop-p-test.true
-    ∙ rising_next c.loop-p.low c.args.w (get_or c.args.places.now c.loop-p.p-index 0) _ c.if-place-low.false c.if-place-w.false)
-    ∙ c.loop-p.invariant
-
-pub returns : goal.returns
-unfolding rising_from
-returns c = sym (sym c.loop-p.invariant ∙ at_drop_all (rising_from c.loop-p.low c.args.w) c.args.places.now c.loop-p.p-index c.loop-p-test.false)
+pub returns-then-is_sorted_by : goal.returns-then-is_sorted_by
+returns-then-is_sorted_by c =
+    let ps : List ℕ = c.args.places.now in
+    let s = MatchBool-at_true _ _ c.if-is_sorted_by.true (c.is_sorted_by.ensures.cases (λ x y. ltb x y) (answers_always _ _ _ (λ f a r g h. search rules))) in
+    c.all_below.ensures
+    ∙ rising_is_below c.args.w ps (λ k l.
+    let next : k + 1 ≡ suc k = omega arith in
+    subst (λ (m : ℕ). at ps k < at ps m) next (ltb-true (at ps k) (at ps (k + 1)) (sym (s k 0 (omega arith)))))
