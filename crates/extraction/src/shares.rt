@@ -36,7 +36,7 @@ impl<'a> Comparison<'a> {
         ensures value { some_values result ≡ first_against (agrees (block_of self.now.charge) self.now.square.now (case_in self.now.charge).claim) (case_in self.now.charge).witnesses }
         ensures sound { IfSome result (λ w. Sound (block_of self.now.charge) (values_of w)) }
     {
-        // No `find`: `has_share` asks that the place is on the line, which a closure would not know of a witness that it is given.
+        // `has_share` asks that the place is on the line: the loop knows it at each turn, `find` would want it shown of all turns before.
         for w in self.charge.witnesses() {
             if !self.has_share(&w) {
                 return Some(w);
