@@ -10,7 +10,7 @@ use sha256::digest::Sha256;
 const CELL: Cell = Cell { row: 1, col: 2 };
 
 fn show_check(rt: &HostRuntime, h: &Header, share: u8, path: &[u8]) -> anyhow::Result<()> {
-    match check_share::<Sha256>(h, CELL, 0, &[share], path) {
+    match check_share::<Sha256>(h, CELL, Axis::Row.into(), &[share], path) {
         Ok(()) => println!(rt; "with the share {share} it is accepted")?,
         Err(refusal) => println!(rt;
             "with the share {share} it is refused by {}",

@@ -4,7 +4,7 @@ use crate::file::show_digest;
 use commitment::commit::commit;
 use erasure::kinds::Polynomial;
 use fraud::check::check_proof;
-use header::cell::Cell;
+use header::cell::{Axis, Cell};
 use header::header::Header;
 use sha256::digest::Sha256;
 use wire::record::Record;
@@ -14,7 +14,7 @@ use wire::write::write_record;
 fn claim(b: &Block) -> anyhow::Result<[u8; 137]> {
     let path = b.path(Cell { row: 1, col: 0 })?;
     let item = Record::Claim {
-        axis: 0,
+        axis: Axis::Row.into(),
         index: 1,
         root: &b.roots[32..64],
         path: &path[64..160],
@@ -30,7 +30,7 @@ fn witness(b: &Block, place: u16) -> anyhow::Result<[u8; 170]> {
     let path = b.path(cell)?;
     let item = Record::Witness {
         place,
-        axis: 0,
+        axis: Axis::Row.into(),
         share: b.share(cell)?,
         path: &path,
     };

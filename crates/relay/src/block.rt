@@ -15,8 +15,11 @@ pub struct Block {
 impl Block {
     // The share of a cell.
     pub fn share(&self, cell: Cell) -> anyhow::Result<&[u8]> {
-        let number = self.header.cell_number(cell).unwrap_or(usize::MAX);
-        match self.square.chunks(1).nth(number) {
+        let shown = self
+            .header
+            .cell_number(cell)
+            .and_then(|number| self.square.get(number..number.wrapping_add(1)));
+        match shown {
             Some(share) => Ok(share),
             None => Err(anyhow!("a cell is outside the square")),
         }

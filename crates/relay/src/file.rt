@@ -3,7 +3,7 @@ use crate::block::Block;
 use blockfile::file::BlockFile;
 use blockfile::open::open_file;
 use hash::digest::Hash;
-use header::cell::Cell;
+use header::cell::{Axis, Cell};
 use sha256::digest::Sha256;
 use std::alloc::Global;
 use wire::record::Record;
@@ -18,10 +18,10 @@ struct Writer<'a> {
 }
 
 impl<'a> Writer<'a> {
-    // Appends a record with a body of so many bytes.
-    fn append(&mut self, item: &Record, body: usize) -> anyhow::Result<()> {
-        let mut record = vec![in self.heap; 0u8; body.wrapping_add(6)]?;
-        write_record(&self.block.header, item, record.as_mut_slice())?;
+    fn append(&mut self, item: &Record) -> anyhow::Result<()> {
+        let h = &self.block.header;
+        let mut record = vec![in self.heap; 0u8; item.kind().record_len(h)]?;
+        write_record(h, item, record.as_mut_slice())?;
         self.bytes.extend_from_slice(record.as_slice())?;
         Ok(())
     }
@@ -29,17 +29,8 @@ impl<'a> Writer<'a> {
     // The header and the roots.
     fn append_front(&mut self) -> anyhow::Result<()> {
         let block = self.block;
-        let h = &block.header;
-        let n = h.lengths();
-        let front = Record::Header {
-            k: h.k,
-            s: h.s,
-            hash_kind: h.hash_kind,
-            code_kind: h.code_kind,
-            data_root: &h.data_root,
-        };
-        self.append(&front, n.header_body)?;
-        self.append(&Record::Roots(&block.roots), n.roots)
+        self.append(&Record::from(&block.header))?;
+        self.append(&Record::Roots(&block.roots))
     }
 
     // One share with its path, in the group of its row.
@@ -51,20 +42,20 @@ impl<'a> Writer<'a> {
             share: block.share(cell)?,
             path: &path,
         };
-        self.append(&item, block.header.lengths().share_body)
+        self.append(&item)
     }
 
     // The group of a row with all its shares.
     fn append_row(&mut self, row: u16) -> anyhow::Result<()> {
         let begin = Record::Group {
-            axis: 0,
+            axis: Axis::Row.into(),
             index: row,
         };
-        self.append(&begin, 3)?;
+        self.append(&begin)?;
         for col in 0..4u16 {
             self.append_share(Cell { row, col })?;
         }
-        self.append(&Record::GroupEnd, 0)
+        self.append(&Record::GroupEnd)
     }
 }
 

@@ -9,7 +9,7 @@ use wire::record::Record;
 // What a claim says, and the lines whose root and whose path it brings.
 #[derive(Clone, Copy, Drop)]
 pub struct Claimed {
-    pub axis: u8,
+    pub axis: Axis,
     pub index: u16,
     // A line by its number, rows first.
     pub root_of: usize,
@@ -21,12 +21,12 @@ pub struct Claimed {
 pub struct Witnessed {
     pub place: u16,
     pub axis: Axis,
-    pub cell: (u16, u16),
+    pub cell: Cell,
 }
 
 // Row 1, as it should be claimed.
 pub const ROW_1: Claimed = Claimed {
-    axis: 0,
+    axis: Axis::Row,
     index: 1,
     root_of: 1,
     path_of: (Axis::Row, 1),
@@ -36,19 +36,14 @@ pub const ROW_1: Claimed = Claimed {
 pub const AT_0: Witnessed = Witnessed {
     place: 0,
     axis: Axis::Row,
-    cell: (1, 0),
+    cell: Cell { row: 1, col: 0 },
 };
 
 pub const AT_1: Witnessed = Witnessed {
     place: 1,
     axis: Axis::Column,
-    cell: (1, 1),
+    cell: Cell { row: 1, col: 1 },
 };
-
-// Lengths of the records of this block.
-const CLAIM: usize = 137;
-
-const WITNESS: usize = 170;
 
 // Appends the claim record.
 fn append_claim<H: Hash>(
@@ -60,12 +55,12 @@ fn append_claim<H: Hash>(
     let (axis, index) = claim.path_of;
     let path = b.path::<H>(axis, Cell::on_line(axis, index, 0))?;
     let item = Record::Claim {
-        axis: claim.axis,
+        axis: claim.axis.into(),
         index: claim.index,
         root: b.root(claim.root_of)?,
         path: &path[64..160],
     };
-    b.append(heap, &item, CLAIM, proof)
+    b.append(heap, &item, proof)
 }
 
 // Appends a witness record.
@@ -75,16 +70,14 @@ fn append_witness<H: Hash>(
     witness: Witnessed,
     proof: &mut Vec<u8>,
 ) -> Result<(), Fail> {
-    let (row, col) = witness.cell;
-    let cell = Cell { row, col };
-    let path = b.path::<H>(witness.axis, cell)?;
+    let path = b.path::<H>(witness.axis, witness.cell)?;
     let item = Record::Witness {
         place: witness.place,
         axis: witness.axis.into(),
-        share: b.share(cell)?,
+        share: b.share(witness.cell)?,
         path: &path,
     };
-    b.append(heap, &item, WITNESS, proof)
+    b.append(heap, &item, proof)
 }
 
 // The bytes of a claim and of witnesses.

@@ -7,6 +7,7 @@ use fraud::check::check_proof;
 use fraud::refusal::FraudRefusal;
 use hash::digest::Hash;
 use header::cell::Axis::{Column, Row};
+use header::cell::Cell;
 use header::header::Header;
 use sha3::digest::Sha3;
 use sha256::digest::Sha256;
@@ -66,7 +67,7 @@ impl Bench {
 fn claims(rt: &impl Abort, b: &Bench) -> Result<(), Fail> {
     b.expect(rt, ROW_1, &[AT_0, AT_1], ACCEPTED)?;
     let sound = Claimed {
-        axis: 0,
+        axis: Row,
         index: 0,
         root_of: 0,
         path_of: (Row, 0),
@@ -75,31 +76,31 @@ fn claims(rt: &impl Abort, b: &Bench) -> Result<(), Fail> {
         Witnessed {
             place: 0,
             axis: Row,
-            cell: (0, 0),
+            cell: Cell { row: 0, col: 0 },
         },
         Witnessed {
             place: 2,
             axis: Row,
-            cell: (0, 2),
+            cell: Cell { row: 0, col: 2 },
         },
     ];
     b.expect(rt, sound, &on_row_0, Err((21, None)))?;
     let off_by_one = Claimed {
-        axis: 0,
+        axis: Row,
         index: 2,
         root_of: 1,
         path_of: (Row, 1),
     };
     b.expect(rt, off_by_one, &[AT_0, AT_1], Err((18, None)))?;
     let other_root = Claimed {
-        axis: 0,
+        axis: Row,
         index: 1,
         root_of: 2,
         path_of: (Row, 1),
     };
     b.expect(rt, other_root, &[AT_0, AT_1], Err((18, None)))?;
     let from_c = Claimed {
-        axis: 1,
+        axis: Column,
         index: 3,
         root_of: 7,
         path_of: (Row, 3),
@@ -110,7 +111,7 @@ fn claims(rt: &impl Abort, b: &Bench) -> Result<(), Fail> {
 // Column 3 is badly coded too.
 fn columns(rt: &impl Abort, b: &Bench) -> Result<(), Fail> {
     let column_3 = Claimed {
-        axis: 1,
+        axis: Column,
         index: 3,
         root_of: 7,
         path_of: (Column, 3),
@@ -118,18 +119,18 @@ fn columns(rt: &impl Abort, b: &Bench) -> Result<(), Fail> {
     let first = Witnessed {
         place: 0,
         axis: Column,
-        cell: (0, 3),
+        cell: Cell { row: 0, col: 3 },
     };
     let second = Witnessed {
         place: 1,
         axis: Row,
-        cell: (1, 3),
+        cell: Cell { row: 1, col: 3 },
     };
     b.expect(rt, column_3, &[first, second], ACCEPTED)?;
     let by_row_as_column = Witnessed {
         place: 0,
         axis: Column,
-        cell: (3, 0),
+        cell: Cell { row: 3, col: 0 },
     };
     b.expect(
         rt,
@@ -146,13 +147,13 @@ fn witnesses(rt: &impl Abort, b: &Bench) -> Result<(), Fail> {
     let other_row = Witnessed {
         place: 0,
         axis: Row,
-        cell: (2, 0),
+        cell: Cell { row: 2, col: 0 },
     };
     b.expect(rt, ROW_1, &[other_row, AT_1], Err((20, Some(0))))?;
     let other_place = Witnessed {
         place: 2,
         axis: Row,
-        cell: (1, 3),
+        cell: Cell { row: 1, col: 3 },
     };
     b.expect(rt, ROW_1, &[AT_0, other_place], Err((20, Some(1))))?;
     b.expect(rt, ROW_1, &[], Err((10, Some(137))))?;

@@ -48,8 +48,11 @@ impl Block {
 
     // The share of a cell.
     pub fn share(&self, cell: Cell) -> Result<&[u8], Fail> {
-        let number = self.header.cell_number(cell).unwrap_or(usize::MAX);
-        match self.square.chunks(1).nth(number) {
+        let shown = self
+            .header
+            .cell_number(cell)
+            .and_then(|number| self.square.get(number..number.wrapping_add(1)));
+        match shown {
             Some(share) => Ok(share),
             None => Err(Fail::new("no such cell")),
         }
@@ -63,15 +66,9 @@ impl Block {
         }
     }
 
-    // Appends a record of so many bytes.
-    pub fn append(
-        &self,
-        heap: Global,
-        item: &Record,
-        len: usize,
-        bytes: &mut Vec<u8>,
-    ) -> Result<(), Fail> {
-        let mut record = vec![in heap; 0u8; len]?;
+    // Appends a record.
+    pub fn append(&self, heap: Global, item: &Record, bytes: &mut Vec<u8>) -> Result<(), Fail> {
+        let mut record = vec![in heap; 0u8; item.kind().record_len(&self.header)]?;
         write_record(&self.header, item, record.as_mut_slice())?;
         bytes.extend_from_slice(record.as_slice())?;
         Ok(())

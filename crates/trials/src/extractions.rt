@@ -5,7 +5,7 @@ use erasure::kinds::Polynomial;
 use extraction::extract::extract;
 use fraud::check::check_proof;
 use hash::digest::Hash;
-use header::cell::Axis;
+use header::cell::{Axis, Cell};
 use std::alloc::Global;
 use std::process::Abort;
 use std::test::*;
@@ -16,7 +16,7 @@ const DATA: [u8; 4] = [1, 2, 3, 4];
 const AT_1_BY_ROW: Witnessed = Witnessed {
     place: 1,
     axis: Axis::Row,
-    cell: (1, 1),
+    cell: Cell { row: 1, col: 1 },
 };
 
 fn digest_of(string: &[u8]) -> Result<[u8; 32], Fail> {

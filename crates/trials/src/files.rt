@@ -7,6 +7,7 @@ use blockfile::open::open_file;
 use blockfile::refusal::FileRefusal;
 use erasure::kinds::Polynomial;
 use header::cell::Axis::{Column, Row};
+use header::cell::Cell;
 use sha256::digest::Sha256;
 use square::extend::extend;
 use std::alloc::Global;
@@ -58,8 +59,8 @@ impl Bench {
         let pieces = [
             Piece::Header,
             Piece::Roots,
-            Piece::Group(0, 0),
-            Piece::Share(Row, 0, 0),
+            Piece::Group(Row, 0),
+            Piece::Share(Row, Cell { row: 0, col: 0 }),
             Piece::End,
         ];
         let mut file = file_of(self.heap, &self.block, &pieces)?;
@@ -82,8 +83,8 @@ fn lacking(rt: &impl Abort, b: &Bench) -> Result<(), Fail> {
         &[
             Piece::Header,
             Piece::Roots,
-            Piece::Group(0, 0),
-            Piece::Share(Row, 0, 0),
+            Piece::Group(Row, 0),
+            Piece::Share(Row, Cell { row: 0, col: 0 }),
         ],
         Err((10, Some(484))),
     )
@@ -108,7 +109,7 @@ fn not_due(rt: &impl Abort, b: &Bench) -> Result<(), Fail> {
         &[
             Piece::Header,
             Piece::Roots,
-            Piece::Group(0, 0),
+            Piece::Group(Row, 0),
             Piece::Claim,
         ],
         Err((10, Some(315))),
@@ -118,9 +119,9 @@ fn not_due(rt: &impl Abort, b: &Bench) -> Result<(), Fail> {
         &[
             Piece::Header,
             Piece::Roots,
-            Piece::Group(0, 0),
-            Piece::Share(Row, 0, 0),
-            Piece::Group(0, 1),
+            Piece::Group(Row, 0),
+            Piece::Share(Row, Cell { row: 0, col: 0 }),
+            Piece::Group(Row, 1),
         ],
         Err((10, Some(484))),
     )?;
@@ -129,9 +130,9 @@ fn not_due(rt: &impl Abort, b: &Bench) -> Result<(), Fail> {
         &[
             Piece::Header,
             Piece::Roots,
-            Piece::Group(0, 0),
+            Piece::Group(Row, 0),
             Piece::End,
-            Piece::Share(Row, 0, 0),
+            Piece::Share(Row, Cell { row: 0, col: 0 }),
         ],
         Err((10, Some(321))),
     )
@@ -184,11 +185,11 @@ fn cells(rt: &impl Abort, b: &Bench) -> Result<(), Fail> {
         &[
             Piece::Header,
             Piece::Roots,
-            Piece::Group(0, 1),
-            Piece::Share(Row, 1, 2),
+            Piece::Group(Row, 1),
+            Piece::Share(Row, Cell { row: 1, col: 2 }),
             Piece::End,
-            Piece::Group(1, 2),
-            Piece::Share(Column, 1, 2),
+            Piece::Group(Column, 2),
+            Piece::Share(Column, Cell { row: 1, col: 2 }),
             Piece::End,
         ],
         Err((12, Some(499))),
@@ -198,9 +199,9 @@ fn cells(rt: &impl Abort, b: &Bench) -> Result<(), Fail> {
         &[
             Piece::Header,
             Piece::Roots,
-            Piece::Group(0, 1),
-            Piece::Share(Row, 1, 2),
-            Piece::Share(Row, 1, 2),
+            Piece::Group(Row, 1),
+            Piece::Share(Row, Cell { row: 1, col: 2 }),
+            Piece::Share(Row, Cell { row: 1, col: 2 }),
         ],
         Err((12, Some(484))),
     )?;
@@ -209,14 +210,14 @@ fn cells(rt: &impl Abort, b: &Bench) -> Result<(), Fail> {
         &[
             Piece::Header,
             Piece::Roots,
-            Piece::Group(1, 3),
-            Piece::Share(Column, 2, 3),
-            Piece::Share(Column, 0, 3),
+            Piece::Group(Column, 3),
+            Piece::Share(Column, Cell { row: 2, col: 3 }),
+            Piece::Share(Column, Cell { row: 0, col: 3 }),
             Piece::End,
-            Piece::Group(0, 3),
+            Piece::Group(Row, 3),
             Piece::End,
-            Piece::Group(0, 3),
-            Piece::Share(Row, 3, 3),
+            Piece::Group(Row, 3),
+            Piece::Share(Row, Cell { row: 3, col: 3 }),
             Piece::End,
         ],
         OPENS,
@@ -254,12 +255,12 @@ fn prefixes(rt: &impl Abort, b: &Bench) -> Result<(), Fail> {
     let pieces = [
         Piece::Header,
         Piece::Roots,
-        Piece::Group(0, 1),
-        Piece::Share(Row, 1, 0),
-        Piece::Share(Row, 1, 3),
+        Piece::Group(Row, 1),
+        Piece::Share(Row, Cell { row: 1, col: 0 }),
+        Piece::Share(Row, Cell { row: 1, col: 3 }),
         Piece::End,
-        Piece::Group(1, 2),
-        Piece::Share(Column, 0, 2),
+        Piece::Group(Column, 2),
+        Piece::Share(Column, Cell { row: 0, col: 2 }),
         Piece::End,
     ];
     let file = file_of(b.heap, &b.block, &pieces)?;

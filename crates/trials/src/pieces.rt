@@ -12,25 +12,12 @@ pub enum Piece {
     Header,
     Roots,
     // Axis and index.
-    Group(u8, u16),
-    // The share of the cell in a row and a column, proved along an axis.
-    Share(Axis, u16, u16),
+    Group(Axis, u16),
+    // The share of a cell, proved along an axis.
+    Share(Axis, Cell),
     End,
     Claim,
 }
-
-// Lengths of the records of this block.
-const HEADER: usize = 44;
-
-const ROOTS: usize = 262;
-
-const GROUP: usize = 9;
-
-const SHARE: usize = 169;
-
-const END: usize = 6;
-
-const CLAIM: usize = 137;
 
 fn append_share(
     heap: Global,
@@ -45,28 +32,22 @@ fn append_share(
         share: block.share(cell)?,
         path: &path,
     };
-    block.append(heap, &item, SHARE, file)
+    block.append(heap, &item, file)
 }
 
 fn append_piece(heap: Global, block: &Block, piece: Piece, file: &mut Vec<u8>) -> Result<(), Fail> {
-    let h = &block.header;
     match piece {
-        Piece::Header => {
-            let item = Record::Header {
-                k: h.k,
-                s: h.s,
-                hash_kind: h.hash_kind,
-                code_kind: h.code_kind,
-                data_root: &h.data_root,
-            };
-            block.append(heap, &item, HEADER, file)
-        }
-        Piece::Roots => block.append(heap, &Record::Roots(&block.roots), ROOTS, file),
+        Piece::Header => block.append(heap, &Record::from(&block.header), file),
+        Piece::Roots => block.append(heap, &Record::Roots(&block.roots), file),
         Piece::Group(axis, index) => {
-            block.append(heap, &Record::Group { axis, index }, GROUP, file)
+            let item = Record::Group {
+                axis: axis.into(),
+                index,
+            };
+            block.append(heap, &item, file)
         }
-        Piece::Share(axis, row, col) => append_share(heap, block, axis, Cell { row, col }, file),
-        Piece::End => block.append(heap, &Record::GroupEnd, END, file),
+        Piece::Share(axis, cell) => append_share(heap, block, axis, cell, file),
+        Piece::End => block.append(heap, &Record::GroupEnd, file),
         Piece::Claim => {
             let item = Record::Claim {
                 axis: 0,
@@ -74,7 +55,7 @@ fn append_piece(heap: Global, block: &Block, piece: Piece, file: &mut Vec<u8>) -
                 root: &block.roots[0..32],
                 path: &block.roots[0..96],
             };
-            block.append(heap, &item, CLAIM, file)
+            block.append(heap, &item, file)
         }
     }
 }

@@ -23,9 +23,8 @@ impl Codeword {
         let mut shares = Vec::new(heap);
         for place in places {
             let from = usize::from(*place).wrapping_mul(self.s);
-            for b in self.word.iter().skip(from).take(self.s) {
-                shares.push(*b)?;
-            }
+            let share = self.word.as_slice().get(from..from.wrapping_add(self.s));
+            shares.extend_from_slice(share.unwrap_or(&[]))?;
         }
         Ok(shares)
     }

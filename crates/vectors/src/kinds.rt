@@ -1,5 +1,10 @@
 // The hashes and the codes that a line names, by the bytes that name them in a header.
 use anyhow::anyhow;
+use erasure::code::Code;
+use erasure::kinds::{Cauchy, Polynomial};
+use hash::digest::Hash;
+use sha3::digest::Sha3;
+use sha256::digest::Sha256;
 
 #[derive(Clone, Copy, PartialEq, Eq, Drop)]
 pub enum HashKind {
@@ -13,35 +18,11 @@ pub enum CodeKind {
     Cauchy,
 }
 
-impl TryFrom<u8> for HashKind {
-    type Error = anyhow::Error;
-
-    fn try_from(kind: u8) -> anyhow::Result<HashKind> {
-        match kind {
-            1 => Ok(HashKind::Sha256),
-            2 => Ok(HashKind::Sha3),
-            _ => Err(anyhow!("a hash is unknown")),
-        }
-    }
-}
-
-impl TryFrom<u8> for CodeKind {
-    type Error = anyhow::Error;
-
-    fn try_from(kind: u8) -> anyhow::Result<CodeKind> {
-        match kind {
-            1 => Ok(CodeKind::Polynomial),
-            2 => Ok(CodeKind::Cauchy),
-            _ => Err(anyhow!("a code is unknown")),
-        }
-    }
-}
-
 impl From<HashKind> for u8 {
     fn from(kind: HashKind) -> u8 {
         match kind {
-            HashKind::Sha256 => 1,
-            HashKind::Sha3 => 2,
+            HashKind::Sha256 => Sha256::KIND,
+            HashKind::Sha3 => Sha3::KIND,
         }
     }
 }
@@ -49,8 +30,32 @@ impl From<HashKind> for u8 {
 impl From<CodeKind> for u8 {
     fn from(kind: CodeKind) -> u8 {
         match kind {
-            CodeKind::Polynomial => 1,
-            CodeKind::Cauchy => 2,
+            CodeKind::Polynomial => Polynomial::KIND,
+            CodeKind::Cauchy => Cauchy::KIND,
+        }
+    }
+}
+
+impl TryFrom<u8> for HashKind {
+    type Error = anyhow::Error;
+
+    fn try_from(byte: u8) -> anyhow::Result<HashKind> {
+        let kinds = [HashKind::Sha256, HashKind::Sha3];
+        match kinds.iter().find(|kind| u8::from(**kind) == byte) {
+            Some(kind) => Ok(*kind),
+            None => Err(anyhow!("a hash is unknown")),
+        }
+    }
+}
+
+impl TryFrom<u8> for CodeKind {
+    type Error = anyhow::Error;
+
+    fn try_from(byte: u8) -> anyhow::Result<CodeKind> {
+        let kinds = [CodeKind::Polynomial, CodeKind::Cauchy];
+        match kinds.iter().find(|kind| u8::from(**kind) == byte) {
+            Some(kind) => Ok(*kind),
+            None => Err(anyhow!("a code is unknown")),
         }
     }
 }
