@@ -5,10 +5,11 @@ ghost use Rattle.extraction.specs.Extracted.{data_path};
 ghost use Rattle.fraud.specs.Accepted.{claim_rungs};
 ghost use Rattle.fraud.specs.Charge.{block_of, case_in};
 ghost use Rattle.header.specs.Lines.{axis_by};
-ghost use Rattle.header.specs.Sizes.{data_path_len, data_tree_len, depth, line_count, line_number, string_len};
+ghost use Rattle.header.specs.Sizes.{data_path_len, data_tree_len, depth, line_count, line_number};
 ghost use Rattle.merkle.specs.Climb.{from_leaf, slot};
 
 use crate::comparison::Comparison;
+use crate::lengths::STRING_LEN;
 use collisions::branch::{Branch, Pair};
 use collisions::find::find_collision;
 use commitment::rooms::DATA_TREE_ROOM;
@@ -37,11 +38,10 @@ impl Comparison<'_> {
         &self,
         tree: &mut [u8],
         own: &mut [u8],
-        string_a: &mut [u8],
-        string_b: &mut [u8],
+        string_a: &mut [u8; STRING_LEN],
+        string_b: &mut [u8; STRING_LEN],
     ) -> Option<usize>
         requires room { (length tree.old ≡ data_tree_len (block_of self.now.charge)) × (length own.old ≡ data_path_len (block_of self.now.charge)) }
-        requires strings { (length string_a.old ≡ string_len) × (length string_b.old ≡ string_len) }
         ensures { let line = line_number (block_of self.now.charge) (axis_by self.now.charge.proof.axis) self.now.charge.proof.index in Finds H.meaning (claim_rungs (block_of self.now.charge) (case_in self.now.charge).claim) (from_leaf (depth (block_of self.now.charge) + 1) line (data_path H.meaning (block_of self.now.charge) self.now.roots.now line)) self.now.charge.proof.root.now (slot line self.now.roots.now) result string_a.old string_b.old string_a.new string_b.new }
     {
         let line = self.charge.line_number();
@@ -75,10 +75,9 @@ impl Comparison<'_> {
     // The same with room of its own.
     pub(crate) fn collide_at_claim<H: Hash>(
         &self,
-        string_a: &mut [u8],
-        string_b: &mut [u8],
+        string_a: &mut [u8; STRING_LEN],
+        string_b: &mut [u8; STRING_LEN],
     ) -> Option<usize>
-        requires { (length string_a.old ≡ string_len) × (length string_b.old ≡ string_len) }
         ensures { let line = line_number (block_of self.now.charge) (axis_by self.now.charge.proof.axis) self.now.charge.proof.index in Finds H.meaning (claim_rungs (block_of self.now.charge) (case_in self.now.charge).claim) (from_leaf (depth (block_of self.now.charge) + 1) line (data_path H.meaning (block_of self.now.charge) self.now.roots.now line)) self.now.charge.proof.root.now (slot line self.now.roots.now) result string_a.old string_b.old string_a.new string_b.new }
     {
         let n = self.charge.header.lengths();

@@ -8,9 +8,10 @@ ghost use Rattle.fraud.specs.Accepted.{witness_col, witness_row};
 ghost use Rattle.fraud.specs.Charge.{block_of, case_in};
 ghost use Rattle.fraudproof.specs.Witness.{values_of};
 ghost use Rattle.header.specs.Lines.{axis_by};
-ghost use Rattle.header.specs.Sizes.{path_len, string_len, width};
+ghost use Rattle.header.specs.Sizes.{path_len, width};
 
 use crate::comparison::Comparison;
+use crate::lengths::STRING_LEN;
 use collisions::branch::{Branch, Pair};
 use collisions::find::find_collision_through;
 use evidence::write::evidence_of;
@@ -28,13 +29,12 @@ impl Comparison<'_> {
         axis: Axis,
         shown: Branch<'_>,
         own: &mut [u8],
-        string_a: &mut [u8],
-        string_b: &mut [u8],
+        string_a: &mut [u8; STRING_LEN],
+        string_b: &mut [u8; STRING_LEN],
     ) -> Option<usize>
         requires kinds { self.now.charge.header.now.hash_kind ≡ H.KIND }
         requires cell { (cell.row < width (block_of self.now.charge)) × (cell.col < width (block_of self.now.charge)) }
         requires paths { (length shown.value.now ≡ self.now.charge.header.now.s) × ((length shown.path.now ≡ path_len (block_of self.now.charge)) × (length own.old ≡ path_len (block_of self.now.charge))) }
-        requires strings { (length string_a.old ≡ string_len) × (length string_b.old ≡ string_len) }
         ensures { Finds H.meaning (evidence_rungs (block_of self.now.charge) axis cell.row cell.col shown.entry.path.now) (evidence_rungs (block_of self.now.charge) axis cell.row cell.col (evidence_path H.meaning (block_of self.now.charge) self.now.square.now self.now.roots.now axis cell.row cell.col)) shown.entry.value.now (cell_share (block_of self.now.charge) self.now.square.now cell.row cell.col) result string_a.old string_b.old string_a.new string_b.new }
     {
         let h = self.charge.header;
@@ -62,12 +62,11 @@ impl Comparison<'_> {
     pub(crate) fn collide_at_witness<H: Hash>(
         &self,
         w: &Witness,
-        string_a: &mut [u8],
-        string_b: &mut [u8],
+        string_a: &mut [u8; STRING_LEN],
+        string_b: &mut [u8; STRING_LEN],
     ) -> Option<usize>
         requires kinds { self.now.charge.header.now.hash_kind ≡ H.KIND }
         requires sound { Sound (block_of self.now.charge) (values_of w.now) }
-        requires strings { (length string_a.old ≡ string_len) × (length string_b.old ≡ string_len) }
         ensures { let row = witness_row (case_in self.now.charge).claim (values_of w.now) in let col = witness_col (case_in self.now.charge).claim (values_of w.now) in Finds H.meaning (evidence_rungs (block_of self.now.charge) (axis_by w.now.axis) row col w.now.path.now) (evidence_rungs (block_of self.now.charge) (axis_by w.now.axis) row col (evidence_path H.meaning (block_of self.now.charge) self.now.square.now self.now.roots.now (axis_by w.now.axis) row col)) w.now.share.now (own_share (block_of self.now.charge) self.now.square.now (case_in self.now.charge).claim (values_of w.now)) result string_a.old string_b.old string_a.new string_b.new }
     {
         let len = self.charge.header.lengths().path;

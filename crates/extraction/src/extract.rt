@@ -8,11 +8,11 @@ ghost use Rattle.fraudproof.specs.Proof.{Case};
 ghost use Rattle.fraud.specs.Accepted.{Accepted};
 ghost use Rattle.fraud.specs.Refusals.{told};
 ghost use Rattle.header.specs.Fields.{fields_of};
-ghost use Rattle.header.specs.Sizes.{data_len, roots_len, square_len, string_len};
+ghost use Rattle.header.specs.Sizes.{data_len, roots_len, square_len};
 ghost use Rattle.std.specs.Prelude.{◌≡◌, ℕ, length, Ok};
 
 use crate::comparison::Comparison;
-use crate::lengths::lengths_fit;
+use crate::lengths::{STRING_LEN, lengths_fit};
 use crate::rebuild::rebuild;
 use erasure::code::Code;
 use fraud::charge::Charge;
@@ -29,12 +29,11 @@ fn extract_from<'x, H: Hash>(
     square: &'x [u8],
     roots: &'x [u8],
     bytes: &'x [u8],
-    string_a: &mut [u8],
-    string_b: &mut [u8],
+    string_a: &mut [u8; STRING_LEN],
+    string_b: &mut [u8; STRING_LEN],
 ) -> Option<usize>
     requires kinds { h.now.hash_kind ≡ H.KIND }
     requires block { (length square.now ≡ square_len (fields_of h.now)) × ((roots.now ≡ roots_of H.meaning (fields_of h.now) square.now) × (length roots.now ≡ roots_len (fields_of h.now))) }
-    requires strings { (length string_a.old ≡ string_len) × (length string_b.old ≡ string_len) }
     ensures { (p : Case) → case_outcome (fields_of h.now) bytes.now ≡ Ok p → Compares H.meaning (fields_of h.now) square.now p result string_a.old string_b.old string_a.new string_b.new }
 {
     let charge = Charge {
@@ -56,12 +55,11 @@ fn extract_with<H: Hash, C: Code>(
     bytes: &[u8],
     square: &mut [u8],
     roots: &mut [u8],
-    string_a: &mut [u8],
-    string_b: &mut [u8],
+    string_a: &mut [u8; STRING_LEN],
+    string_b: &mut [u8; STRING_LEN],
 ) -> Result<usize, FraudRefusal>
     requires kinds { (h.now.hash_kind ≡ H.Hash.KIND) × (h.now.code_kind ≡ C.Code.KIND) }
     requires block { (length shares.now ≡ data_len (fields_of h.now)) × ((length square.old ≡ square_len (fields_of h.now)) × (length roots.old ≡ roots_len (fields_of h.now))) }
-    requires room { (length string_a.old ≡ string_len) × (length string_b.old ≡ string_len) }
     ensures answer { outcome told result ≡ extracted_from H.Hash.meaning C.Code.weight (fields_of h.now) (square_of C.Code.table (fields_of h.now) shares.now) bytes.now }
     ensures writes { Writes H.Hash.meaning (fields_of h.now) (square_of C.Code.table (fields_of h.now) shares.now) bytes.now (outcome told result) string_a.old string_b.old string_a.new string_b.new }
     ensures collision { AlwaysInHand H.Hash.meaning (outcome told result) string_a.new string_b.new }
@@ -100,13 +98,13 @@ pub fn extract<H: Hash, C: Code>(
     if h.code_kind != C::KIND {
         return Err(FraudRefusal::OtherCode);
     }
-    if !lengths_fit(
-        h,
-        shares.len(),
-        string_a.len(),
-        string_b.len(),
-        scratch.len(),
-    ) {
+    let Some(string_a) = string_a.as_mut_array::<STRING_LEN>() else {
+        return Err(FraudRefusal::WrongLength);
+    };
+    let Some(string_b) = string_b.as_mut_array::<STRING_LEN>() else {
+        return Err(FraudRefusal::WrongLength);
+    };
+    if !lengths_fit(h, shares.len(), scratch.len()) {
         return Err(FraudRefusal::WrongLength);
     }
     let len = h.lengths().roots;

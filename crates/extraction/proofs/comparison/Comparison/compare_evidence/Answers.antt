@@ -36,4 +36,4 @@ returns g c =
     f shown.value.now c.cell_share.result.now (cell_share x sq r col) shown.path.now c.evidence_of.new.path _ _ _ _ _ _
     p.1.0 long c.cell_share.ensures own
     (c.find_collision_through.ensures.finds
-    (two_fits c.lengths-depth.result.depth h.s (2 * depth x + 1) _ _ _ _ _ _ (omega arith) (size_most h.s h.size) p.0 size p.1.0 long c.requires.strings.0 c.requires.strings.1)))
+    (two_fits c.lengths-depth.result.depth h.s (2 * depth x + 1) _ _ _ _ _ _ (omega arith) (size_most h.s h.size) p.0 size p.1.0 long (omega arith) (omega arith))))
