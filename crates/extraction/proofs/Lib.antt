@@ -5,4 +5,3 @@ pub mod Paths
 pub mod Collides
 pub mod Comparing
 pub mod Extracting
-pub mod Refusing

@@ -11,15 +11,15 @@ use fraudproof::witness::Witness;
 use header::cell::Cell;
 
 impl<'a> Comparison<'a> {
-    // The square's share of a cell. The cell is inside, so its number is worked out here: that of a header would be an Option that is
-    // never none, and a climb from the cell needs a share.
+    // The square's share of a cell.
     pub(crate) fn cell_share(&self, cell: Cell) -> &'a [u8]
         requires { (cell.row < width (block_of self.now.charge)) × (cell.col < width (block_of self.now.charge)) }
         ensures { result.now ≡ cell_share (block_of self.now.charge) self.now.square.now cell.row cell.col }
     {
+        let Some(number) = self.charge.header.cell_number(cell) else {
+            unreachable()
+        };
         let size = self.charge.header.s as usize;
-        let width = 2 * self.charge.header.k as usize;
-        let number = cell.row as usize * width + cell.col as usize;
         &self.square[number * size..number * size + size]
     }
 
