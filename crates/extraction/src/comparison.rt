@@ -5,7 +5,8 @@ ghost use Rattle.header.specs.Sizes.{roots_len, square_len};
 
 use fraud::charge::Charge;
 
-// The square and the roots of its lines have the lengths that the block's have.
+// The square and the roots of its lines have the lengths that the block's have. That the hash is the block's is asked by the methods that
+// may climb from a witness: a type parameter for it would be that of no field.
 #[derive(Clone, Copy)]
 pub(crate) struct Comparison<'a> {
     pub(crate) charge: Charge<'a>,

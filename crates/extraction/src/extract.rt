@@ -23,7 +23,8 @@ use hash::digest::Hash;
 use header::header::Header;
 use header::lengths::ROOTS_ROOM;
 
-// Reads an accepted proof once more and compares it with the square.
+// Reads an accepted proof once more and compares it with the square. A function of its own: the parts of a comparison have one
+// lifetime, and that of the header and of a square which was just written are two.
 fn extract_from<'x, H: Hash>(
     h: &'x Header,
     square: &'x [u8],

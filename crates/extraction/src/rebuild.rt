@@ -25,7 +25,7 @@ fn is_header_of<H: Hash>(h: &Header, roots: &[u8]) -> bool
 }
 
 // Extends the data to the square, writes its roots, and answers whether the header is theirs. A bool: they are written
-// either way, and an extraction has but one refusal for it.
+// either way, and an extraction has but one refusal for it. The buffers are still to be written, so no comparison can hold them yet.
 pub(crate) fn rebuild<H: Hash, C: Code>(
     h: &Header,
     shares: &[u8],
