@@ -1,7 +1,7 @@
 // Headers and roots of extended blocks, and the evidence of their cells.
 use crate::block::{Block, Shape, block_of};
-use crate::kinds::HashKind;
-use crate::text::{bytes, code_kind, hash_kind, word};
+use crate::kinds::{CodeKind, HashKind};
+use crate::text::{bytes, word};
 use anyhow::anyhow;
 use evidence::check::check_share;
 use evidence::write::evidence_of;
@@ -16,13 +16,39 @@ use std::str::SplitWhitespace;
 // Larger blocks are not asked for the evidence of each cell.
 const MOST_PROVED: u16 = 4;
 
+// What a line has of a block's shape; its kinds need not be known.
+#[derive(Clone, Copy, Drop)]
+struct Named {
+    hash: u8,
+    code: u8,
+    k: u16,
+    s: u16,
+}
+
+impl Named {
+    // The shape, where both kinds are known.
+    fn shape(self) -> anyhow::Result<Shape> {
+        let hash = HashKind::try_from(usize::from(self.hash));
+        let code = CodeKind::try_from(usize::from(self.code));
+        match (hash, code) {
+            (Ok(hash), Ok(code)) => Ok(Shape {
+                hash,
+                code,
+                k: self.k,
+                s: self.s,
+            }),
+            _ => Err(anyhow!("a hash or a code is unknown")),
+        }
+    }
+}
+
 // `HASH CODE K S`
-fn shape(words: &mut SplitWhitespace<'_>) -> anyhow::Result<Shape> {
-    let hash = hash_kind(words)?;
-    let code = code_kind(words)?;
+fn read_shape(words: &mut SplitWhitespace<'_>) -> anyhow::Result<Named> {
+    let hash = word(words)?.parse::<u8>()?;
+    let code = word(words)?.parse::<u8>()?;
     let k = word(words)?.parse::<u16>()?;
     let s = word(words)?.parse::<u16>()?;
-    Ok(Shape { hash, code, k, s })
+    Ok(Named { hash, code, k, s })
 }
 
 // Whether the header has what the block was made of.
@@ -67,7 +93,7 @@ fn prove(heap: Global, block: &Block) -> anyhow::Result<()> {
     if block.header.k > MOST_PROVED {
         return Ok(());
     }
-    match HashKind::try_from(block.header.hash_kind)? {
+    match HashKind::try_from(usize::from(block.header.hash_kind))? {
         HashKind::Sha256 => prove_cells::<Sha256>(heap, block),
         HashKind::Sha3 => prove_cells::<Sha3>(heap, block),
     }
@@ -75,9 +101,10 @@ fn prove(heap: Global, block: &Block) -> anyhow::Result<()> {
 
 // `block HASH CODE K S DATAROOT ROOTSDIGEST`
 fn block_agrees(heap: Global, words: &mut SplitWhitespace<'_>) -> anyhow::Result<bool> {
-    let shape = shape(words)?;
+    let named = read_shape(words)?;
     let data_root = bytes(heap, words)?;
     let roots_digest = bytes(heap, words)?;
+    let shape = named.shape()?;
     let block = block_of(heap, shape)?;
     prove(heap, &block)?;
     let mut digest = [0u8; DIGEST_LEN];
@@ -91,9 +118,9 @@ fn block_agrees(heap: Global, words: &mut SplitWhitespace<'_>) -> anyhow::Result
 
 // `roots HASH CODE K S ROOTS`
 fn roots_agree(heap: Global, words: &mut SplitWhitespace<'_>) -> anyhow::Result<bool> {
-    let shape = shape(words)?;
+    let named = read_shape(words)?;
     let roots = bytes(heap, words)?;
-    let block = block_of(heap, shape)?;
+    let block = block_of(heap, named.shape()?)?;
     Ok(roots.as_slice() == block.roots.as_slice())
 }
 

@@ -1,6 +1,6 @@
 // Codewords, and their recovery from half of their shares.
 use crate::kinds::CodeKind;
-use crate::text::{bytes, code_kind, number, word};
+use crate::text::{bytes, number, word};
 use anyhow::anyhow;
 use erasure::calls::{encode, recover};
 use erasure::code::Code;
@@ -80,9 +80,9 @@ pub fn agrees(heap: Global, line: &str) -> anyhow::Result<bool> {
     if word(&mut words)? != "encode" {
         return Err(anyhow!("a line has an unknown word"));
     }
-    let code = code_kind(&mut words)?;
+    let code = number(&mut words)?;
     let codeword = read_codeword(heap, &mut words)?;
-    match code {
+    match CodeKind::try_from(code)? {
         CodeKind::Polynomial => codeword.holds::<Polynomial>(heap),
         CodeKind::Cauchy => codeword.holds::<Cauchy>(heap),
     }

@@ -1,6 +1,6 @@
 // Digests of messages in parts, and of whole messages.
 use crate::kinds::HashKind;
-use crate::text::{bytes, hash_kind, number, word};
+use crate::text::{bytes, number, unhex, word};
 use anyhow::anyhow;
 use hash::digest::Hash;
 use hash::limits::DIGEST_LEN;
@@ -35,19 +35,19 @@ fn digest_in_parts<H: Hash>(
 
 // `digest KIND LEAD LEFT RIGHT HEX`
 fn in_parts(heap: Global, words: &mut SplitWhitespace<'_>) -> anyhow::Result<[u8; DIGEST_LEN]> {
-    let kind = hash_kind(words)?;
+    let kind = number(words)?;
     let lead = word(words)?.parse::<u8>()?;
     let left = number(words)?;
     let right = number(words)?;
-    match kind {
+    match HashKind::try_from(kind)? {
         HashKind::Sha256 => digest_in_parts::<Sha256>(heap, lead, left, right),
         HashKind::Sha3 => digest_in_parts::<Sha3>(heap, lead, left, right),
     }
 }
 
-fn whole_digest(kind: HashKind, message: &[u8]) -> anyhow::Result<[u8; DIGEST_LEN]> {
+fn whole_digest(kind: usize, message: &[u8]) -> anyhow::Result<[u8; DIGEST_LEN]> {
     let mut out = [0u8; DIGEST_LEN];
-    match kind {
+    match HashKind::try_from(kind)? {
         HashKind::Sha256 => Sha256::hash_message(message, &mut out)?,
         HashKind::Sha3 => Sha3::hash_message(message, &mut out)?,
     }
@@ -56,12 +56,12 @@ fn whole_digest(kind: HashKind, message: &[u8]) -> anyhow::Result<[u8; DIGEST_LE
 
 // `message KIND HEX HEX`, with - for the empty message
 fn whole(heap: Global, words: &mut SplitWhitespace<'_>) -> anyhow::Result<[u8; DIGEST_LEN]> {
-    let kind = hash_kind(words)?;
+    let kind = number(words)?;
     let text = word(words)?;
     if text == "-" {
         return whole_digest(kind, &[]);
     }
-    let message = hex::decode(heap, text)?;
+    let message = unhex(heap, text)?;
     whole_digest(kind, message.as_slice())
 }
 

@@ -1,4 +1,4 @@
-// The hashes and the codes that a line names, by the bytes that name them in a header.
+// The hashes and the codes that a line names, by the numbers that name them in a header.
 use anyhow::anyhow;
 use erasure::code::Code;
 use erasure::kinds::{Cauchy, Polynomial};
@@ -36,26 +36,34 @@ impl From<CodeKind> for u8 {
     }
 }
 
-impl TryFrom<u8> for HashKind {
+// A number that a line has where it names a hash; it need not be a byte.
+impl TryFrom<usize> for HashKind {
     type Error = anyhow::Error;
 
-    fn try_from(byte: u8) -> anyhow::Result<HashKind> {
+    fn try_from(number: usize) -> anyhow::Result<HashKind> {
         let kinds = [HashKind::Sha256, HashKind::Sha3];
-        match kinds.iter().find(|kind| u8::from(**kind) == byte) {
+        match kinds
+            .iter()
+            .find(|kind| usize::from(u8::from(**kind)) == number)
+        {
             Some(kind) => Ok(*kind),
-            None => Err(anyhow!("a hash is unknown")),
+            None => Err(anyhow!("a line has an unknown hash")),
         }
     }
 }
 
-impl TryFrom<u8> for CodeKind {
+// The same for a code.
+impl TryFrom<usize> for CodeKind {
     type Error = anyhow::Error;
 
-    fn try_from(byte: u8) -> anyhow::Result<CodeKind> {
+    fn try_from(number: usize) -> anyhow::Result<CodeKind> {
         let kinds = [CodeKind::Polynomial, CodeKind::Cauchy];
-        match kinds.iter().find(|kind| u8::from(**kind) == byte) {
+        match kinds
+            .iter()
+            .find(|kind| usize::from(u8::from(**kind)) == number)
+        {
             Some(kind) => Ok(*kind),
-            None => Err(anyhow!("a code is unknown")),
+            None => Err(anyhow!("a line has an unknown code")),
         }
     }
 }

@@ -1,5 +1,4 @@
 // Words and numbers of a line of vectors.
-use crate::kinds::{CodeKind, HashKind};
 use anyhow::anyhow;
 use std::alloc::Global;
 use std::str::SplitWhitespace;
@@ -17,17 +16,20 @@ pub fn number(words: &mut SplitWhitespace<'_>) -> anyhow::Result<usize> {
     Ok(word(words)?.parse::<usize>()?)
 }
 
-// The next word, as a hash.
-pub fn hash_kind(words: &mut SplitWhitespace<'_>) -> anyhow::Result<HashKind> {
-    HashKind::try_from(word(words)?.parse::<u8>()?)
-}
-
-// The next word, as a code.
-pub fn code_kind(words: &mut SplitWhitespace<'_>) -> anyhow::Result<CodeKind> {
-    CodeKind::try_from(word(words)?.parse::<u8>()?)
+// The bytes that a word has in hexadecimal, in small letters. A last digit that has no other makes no byte.
+pub fn unhex(heap: Global, word: &str) -> anyhow::Result<Vec<u8>> {
+    let digits = word.as_bytes();
+    if !digits
+        .iter()
+        .all(|digit| matches!(*digit, b'0'..=b'9' | b'a'..=b'f'))
+    {
+        return Err(anyhow!("a digit is not hexadecimal"));
+    }
+    let (pairs, _) = digits.as_chunks::<2>();
+    Ok(hex::decode(heap, pairs.as_flattened())?)
 }
 
 // The next word, as bytes in hexadecimal.
 pub fn bytes(heap: Global, words: &mut SplitWhitespace<'_>) -> anyhow::Result<Vec<u8>> {
-    Ok(hex::decode(heap, word(words)?)?)
+    unhex(heap, word(words)?)
 }
