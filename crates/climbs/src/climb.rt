@@ -63,7 +63,9 @@ pub fn climb_leaf<H: Hash>(
     if out.len() != DIGEST_LEN {
         return Err(Misfit);
     }
-    let end = climb_up::<H>(leaf::<H>(value)?, place, siblings(path)?);
+    // Looked at before the value is hashed, which costs much more.
+    let row = siblings(path)?;
+    let end = climb_up::<H>(leaf::<H>(value)?, place, row);
     out.copy_from_slice(&end);
     Ok(())
 }

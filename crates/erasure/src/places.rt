@@ -1,18 +1,21 @@
 // Lists of places.
 ghost use Rattle.erasure.specs.Places.{rising_below};
-ghost use Rattle.std.specs.Prelude.{◌≡◌, nat_lt};
-ghost use Rattle.std.specs.List.{list_all};
+ghost use Rattle.std.specs.Prelude.{◌≡◌, ◌&&◌, nat_lt};
 
-// Whether all places are below w.
-fn all_below(places: &[u16], w: usize) -> bool
-    ensures { result ≡ list_all (λ p. nat_lt p w) places.now }
+// Whether a place comes after another one and is below w.
+fn rises_to(low: u16, place: u16, w: usize) -> bool
+    ensures { result ≡ (nat_lt low place && nat_lt place w) }
 {
-    places.iter().all(|place| (*place as usize) < w)
+    low < place && (place as usize) < w
 }
 
 // Whether the places are strictly increasing and below w.
 pub fn are_rising(places: &[u16], w: usize) -> bool
     ensures { result ≡ rising_below w places.now }
 {
-    places.is_sorted_by(|a, b| a < b) && all_below(places, w)
+    let Some(first) = places.first() else {
+        return true;
+    };
+    // In one pass, which ends at the first place that does not rise or is not below w.
+    (*first as usize) < w && places.is_sorted_by(|a, b| rises_to(*a, *b, w))
 }

@@ -1,14 +1,15 @@
 -- Witnesses cut from their records, one after the other.
 use Rattle.std.proofs.Common.{◌≡◌, ℕ, zero, suc, ◌+◌, ◌-◌, ◌*◌, ◌/◌, ◌<◌, ◌≤◌, ltb, List, [], ◌∷◌, map, length, get_or, take, drop, Some, None, Option, sym, refl, ap, ◌∙◌, inl, inr, zero-add, arith, length-drop, add-mul, drop-drop}
 use Rattle.std.specs.List.{range_with_len, slice_get}
-use Rattle.std.specs.Option.{option_map}
+use Rattle.std.specs.Option.{option_map, MatchOption}
 use Rattle.std.proofs.lemmas.Bool.{cases_lt, cond-true, cond-false, lt-ltb, le-ltb}
 use Rattle.std.proofs.lemmas.Option.{slice_get_read, slice_get_past}
-use Rattle.std.proofs.Math.Nat.{add-div_left, div-eq_of_lt}
+use Rattle.std.proofs.Math.Nat.{add-div_left, div-eq_of_lt, div-lt_iff_lt-mul}
 use Rattle.std.proofs.lemmas.List.FromFn.{length-map-range_with_len, get_or-map-range_with_len}
 use Rattle.std.proofs.lemmas.List.{get_or-take}
 use Rattle.header.specs.Fields.{Fields}
 use Rattle.header.specs.Sizes.{path_len}
+use Rattle.wire.specs.Values.{Witness}
 use Rattle.fraudproof.specs.Proof.{witness_len, witness_of, witness_at}
 use Rattle.fraudproof.specs.Witness.{values_of, some_values, witness_in, witnesses_of}
 use Rattle.fraudproof.specs.declared.witness.Witness as parts
@@ -83,3 +84,39 @@ module _ (h : Fields) (ws : List ℕ) where
       rw (place', share', path', at 8 (omega arith)) refl in
       first_left (omega arith) ∙ ap (λ v. v ∷ witnesses_of h (drop (witness_len h) ws)) w
       ∙ ap (λ xs. record { place = place; axis = get_or head 8 0; share = share; path = path } ∷ witnesses_of h xs) (sym others')
+
+-- ---- by its place
+
+module _ (h : Fields) (ws : List ℕ) (i : ℕ) where
+  -- behind the last whole record there is none
+  pub none_at : length ws < i * witness_len h + witness_len h → witness_in h ws i ≡ None
+  none_at l =
+      let size : (i + 1) * witness_len h ≡ i * witness_len h + witness_len h = omega (arith, add-mul i 1 (witness_len h)) in
+      let few : length ws / witness_len h < i + 1 = (div-lt_iff_lt-mul {k = witness_len h} {x = length ws} {y = i + 1} (omega arith)).1 (omega arith) in
+      cond-false (ltb i (length ws / witness_len h)) (Some (witness_at h ws i)) None (le-ltb i (length ws / witness_len h) (omega arith))
+
+  some_at : i * witness_len h + witness_len h ≤ length ws → i < length ws / witness_len h
+  some_at l =
+      let size : (i + 1) * witness_len h ≡ i * witness_len h + witness_len h = omega (arith, add-mul i 1 (witness_len h)) in
+      elim (cases_lt i (length ws / witness_len h)) [
+        | inl l ↦ l
+        | inr m ↦
+            let less : length ws < (i + 1) * witness_len h = (div-lt_iff_lt-mul {k = witness_len h} {x = length ws} {y = i + 1} (omega arith)).0 (omega arith) in
+            absurd (omega arith)
+      ]
+
+  -- and the first that is left from a place on stands there
+  left_at : (vs : List Witness) → witnesses_of h (drop (i * witness_len h) ws) ≡ vs → slice_get vs 0 ≡ witness_in h ws i
+  left_at vs e =
+      let rest : length (drop (i * witness_len h) ws) ≡ length ws - i * witness_len h = length-drop (i * witness_len h) ws in
+      elim (cases_lt (length (drop (i * witness_len h) ws)) (witness_len h)) [
+        | inl l ↦ ap (λ xs. slice_get xs 0) (sym e ∙ none_left h (drop (i * witness_len h) ws) l) ∙ sym (none_at (omega arith))
+        | inr l ↦
+            ap (λ xs. slice_get xs 0) (sym e ∙ first_left h (drop (i * witness_len h) ws) l)
+            ∙ sym (cond-true (ltb i (length ws / witness_len h)) (Some (witness_at h ws i)) None (lt-ltb i (length ws / witness_len h) (some_at (omega arith))))
+      ]
+
+  pub cut_at : (o : Option parts.Witness) (t : List Witness) → MatchOption o ((witnesses_of h (drop (i * witness_len h) ws) ≡ []) × (t ≡ [])) (λ w. witnesses_of h (drop (i * witness_len h) ws) ≡ values_of w ∷ t)
+      → some_values o ≡ witness_in h ws i
+  cut_at None t e = left_at [] e.0
+  cut_at (Some w) t e = left_at (values_of w ∷ t) e

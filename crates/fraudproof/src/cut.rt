@@ -7,6 +7,7 @@ ghost use Rattle.header.specs.Fields.{fields_of};
 use crate::proof::Proof;
 use crate::witness::Witness;
 use header::header::Header;
+use wire::kind::Kind;
 
 // The witnesses of a proof in the block of a header, one after the other. Bytes behind the last whole record are none.
 #[derive(Clone, Copy)]
@@ -58,5 +59,8 @@ impl<'a> Proof<'a> {
 pub fn witness_of<'a>(h: &Header, p: &Proof<'a>, i: usize) -> Option<Witness<'a>>
     ensures { some_values result ≡ witness_in (fields_of h.now) p.now.witnesses.now i }
 {
-    p.witnesses(h).nth(i)
+    // By its place: `nth` would cut all those before it too.
+    let start = i.checked_mul(Kind::Witness.record_len(h))?;
+    let records = p.witnesses.get(start..)?;
+    Witnesses { header: h, records }.next()
 }

@@ -1,22 +1,17 @@
-use Rattle.std.proofs.Common.{◌≡◌, ℕ, suc, ◌+◌, ◌<◌, ltb, List, sym, ◌∙◌, subst, arith, rules}
-use Rattle.std.proofs.lemmas.Bool.{false≢true, MatchBool-at_true, MatchBool-at_false, false_from_ne_true, lt-ltb, ltb-true}
-use Rattle.std.proofs.lemmas.List.Sorted.{answers_always}
-use Rattle.codes.specs.Words.{at}
-use Rattle.erasure.proofs.Rises.{rising_up, rising_is_below}
+use Rattle.std.proofs.Common.{◌&&◌, ltb, ◌∙◌, rules}
+use Rattle.std.proofs.lemmas.Bool.{le-ltb}
+use Rattle.std.proofs.lemmas.Fn.{always_returns_same}
+use Rattle.erasure.proofs.Rises.{rising_none, rising_over, rising_adjacent}
 use Rattle.erasure.proofs.places.are_rising.Goals as goal
 
-pub returns-else-is_sorted_by : goal.returns-else-is_sorted_by
-returns-else-is_sorted_by c =
-    let ps : List ℕ = c.args.places.now in
-    let e = MatchBool-at_false _ _ c.if-is_sorted_by.false (c.is_sorted_by.ensures.cases (λ x y. ltb x y) (answers_always _ _ _ (λ f a r g h. search rules))) in
-    c.if-is_sorted_by.false
-    ∙ sym (false_from_ne_true _ (λ h. false≢true (e.2 0 ∙ lt-ltb (at ps e.0) (at ps (e.0 + 1)) (rising_up 0 c.args.w ps h e.0 (e.0 + 1) (omega arith) e.1))))
+pub returns-in_default : goal.returns-in_default
+returns-in_default c = rising_none c.args.w c.args.places.now c.in_default.ensures.value
 
-pub returns-then-is_sorted_by : goal.returns-then-is_sorted_by
-returns-then-is_sorted_by c =
-    let ps : List ℕ = c.args.places.now in
-    let s = MatchBool-at_true _ _ c.if-is_sorted_by.true (c.is_sorted_by.ensures.cases (λ x y. ltb x y) (answers_always _ _ _ (λ f a r g h. search rules))) in
-    c.all_below.ensures
-    ∙ rising_is_below c.args.w ps (λ k l.
-    let next : k + 1 ≡ suc k = omega arith in
-    subst (λ (m : ℕ). at ps k < at ps m) next (ltb-true (at ps k) (at ps (k + 1)) (sym (s k 0 (omega arith)))))
+pub returns-then-first-w : goal.returns-then-first-w
+returns-then-first-w c =
+    rising_adjacent c.args.w c.in-Some.first.now c.args.places.now c.is_sorted_by.result c.in-Some.ensures.value c.if-first-w.true
+    (c.is_sorted_by.ensures.cases (λ x y. ltb x y && ltb y c.args.w) (always_returns_same _ _ _ (λ a r g h. search rules)))
+
+pub returns-else-first-w : goal.returns-else-first-w
+returns-else-first-w c =
+    le-ltb c.in-Some.first.now c.args.w c.if-first-w.false ∙ rising_over c.args.w c.in-Some.first.now c.args.places.now c.in-Some.ensures.value c.if-first-w.false

@@ -1,5 +1,5 @@
 use Rattle.std.proofs.Common.{◌≡◌, ℕ, ◌+◌, ◌<◌, false, eqb, get_or}
-use Rattle.withholding.proofs.withholding.hide.Given as goal
+use Rattle.withholding.proofs.withholding.hide_marked.Given as goal
 
 abbrev pub invariant-loop-is_hidden : goal.invariant-loop-is_hidden
 invariant-loop-is_hidden l =

@@ -1,7 +1,7 @@
 use Rattle.std.proofs.Common.{◌+◌, false, eqb, get_or, refl, ap, ◌∙◌, arith, below_more}
 use Rattle.std.proofs.lemmas.List.{get_or-set_same, get_or-set_other}
 use Rattle.withholding.proofs.Hiding.{next_mark}
-use Rattle.withholding.proofs.withholding.hide.Goals as goal
+use Rattle.withholding.proofs.withholding.hide_marked.Goals as goal
 
 pub loop-is_hidden-preserved : goal.loop-is_hidden-preserved
 loop-is_hidden-preserved c =
