@@ -5,6 +5,9 @@ ghost use Rattle.std.specs.Prelude.{◌≡◌, ◌<◌};
 use header::cell::Axis;
 use header::lengths::MOST_CELLS;
 
+// The most cells of a square.
+pub const CELLS: usize = MOST_CELLS;
+
 // A share record: the place of the file where it begins, and the axis of its group.
 #[derive(Clone, Copy)]
 pub struct Place {

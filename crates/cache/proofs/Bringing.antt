@@ -7,9 +7,10 @@ use Rattle.header.specs.declared.cell.Axis.{Axis}
 use Rattle.header.specs.declared.cell.Cell.{Cell}
 use Rattle.header.specs.Fields.{Fields}
 use Rattle.header.specs.Sizes.{path_len}
+use Rattle.evidence.specs.Evidence.{Evidence}
 use Rattle.store.specs.Meaning.{Meaning, block}
 use Rattle.store.specs.Showing.{asked}
-use Rattle.store.specs.Taking.{in_hand, Takes}
+use Rattle.store.specs.Taking.{taken, in_hand, Takes}
 use Rattle.store.proofs.Asking.{admitted}
 use Rattle.store.proofs.Sweeps.{in_hand_lem}
 use Rattle.cache.specs.declared.kept.Kept.{Kept}
@@ -42,6 +43,16 @@ module _ (f : List ℕ → List ℕ) (kind : ℕ) (h : Fields) (m m' : Meaning) 
       fitted : (b : Bool) (w : Kept) → {e : _} → place_in m.k m.s (Some w) ≡ answer_at cell.row cell.col (Some e) → place_in m.k m.s (then_some b w) ≡ answer_at cell.row cell.col (cond b (Some e) None)
       fitted true w e = e
       fitted false w e = refl
+
+  -- nothing was taken
+  pub brings_none : Takes f h m m' order cell.row cell.col share path None share' path' → Brings f kind h m m' order cell.row cell.col None
+  brings_none t =
+      let here = in_hand_lem f h m m' order cell.row cell.col share path share' path' free_here None t in
+      record { is = sym (ap (answer_at cell.row cell.col) (same_none (header_fits kind h m) (taken f h m cell.row cell.col) here)); same = t.same; kept = t.kept }
+    where
+      same_none : (b : Bool) (v : Option Evidence) → v ≡ None → cond b v None ≡ None
+      same_none true v e = e
+      same_none false v e = refl
 
 -- a part from the front of a buffer, as `&mut xs[0..n]` lends it and leaves it
 pub part_long : (n : ℕ) (xs : List ℕ) → n ≤ length xs → length (take (n - 0) (drop 0 xs)) ≡ n

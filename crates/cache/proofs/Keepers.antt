@@ -1,6 +1,6 @@
 -- What the kept answers give.
-use Rattle.std.proofs.Common.{◌≡◌, ℕ, zero, suc, ◌+◌, ◌-◌, Bool, true, false, cond, ◌&&◌, eqb, List, [], ◌∷◌, ◌++◌, length, get_or, take, drop, set, Some, None, Option, sym, refl, ap, ◌∙◌, subst, inl, inr, arith, length-drop}
-use Rattle.std.proofs.lemmas.List.{get_or_append_left, get_or-append_right, get_or-drop, set-append_right}
+use Rattle.std.proofs.Common.{◌≡◌, ℕ, zero, suc, ◌+◌, ◌-◌, Bool, true, false, cond, ◌&&◌, eqb, List, [], ◌∷◌, ◌++◌, length, get_or, take, drop, set, Some, None, Option, sym, refl, ap, ◌∙◌, subst, inl, inr, arith, length-drop, ◌<◌}
+use Rattle.std.proofs.lemmas.List.{at_drop_more, get_or_append_left, get_or-append_right, get_or-drop, set-append_right}
 use Rattle.std.proofs.lemmas.Bool.{eqb-true, and_parts, cases_Bool, cases_lt, cond-true, cond-false}
 use Rattle.std.proofs.lemmas.Iterator.{YieldsList}
 use Rattle.std.proofs.lemmas.Iterator.Consumers.{YieldsList-from_shown}
@@ -15,6 +15,23 @@ use Rattle.cache.specs.declared.kept.Kept.{Kept}
 use Rattle.cache.specs.Keeping.{Answer, Keeps, evidence_of, answer_in, place_in, places, pushed, kept_for}
 
 -- ---- going through the places
+
+module _ (r c k s : ℕ) (ks : List (Option Kept)) (i : ℕ) where
+  pub kept_none : i < length ks → get_or ks i None ≡ None → kept_for r c (places k s (drop (i + 1) ks)) ≡ kept_for r c (places k s (drop i ks))
+  unfolding kept_for
+  kept_none h e = sym (at_drop_more (λ xs. kept_for r c (places k s xs)) ks i None h ∙ ap (λ o. kept_for r c (places k s (o ∷ drop (i + 1) ks))) e)
+
+  kept_some : (v : Kept) → i < length ks → get_or ks i None ≡ Some v
+      → kept_for r c (places k s (drop i ks)) ≡ cond (eqb v.cell.row r && eqb v.cell.col c) (Some (answer_in k s v).evidence) (kept_for r c (places k s (drop (i + 1) ks)))
+  unfolding kept_for
+  kept_some v h e = at_drop_more (λ xs. kept_for r c (places k s xs)) ks i None h ∙ ap (λ o. kept_for r c (places k s (o ∷ drop (i + 1) ks))) e
+
+  pub kept_hit : (v : Kept) → i < length ks → get_or ks i None ≡ Some v → (eqb v.cell.row r && eqb v.cell.col c) ≡ true → kept_for r c (places k s (drop i ks)) ≡ Some (answer_in k s v).evidence
+  kept_hit v h e t = kept_some v h e ∙ cond-true _ (Some (answer_in k s v).evidence) _ t
+
+  pub kept_other : (v : Kept) → i < length ks → get_or ks i None ≡ Some v → (eqb v.cell.row r && eqb v.cell.col c) ≡ false
+      → kept_for r c (places k s (drop (i + 1) ks)) ≡ kept_for r c (places k s (drop i ks))
+  kept_other v h e t = sym (kept_some v h e ∙ cond-false _ (Some (answer_in k s v).evidence) _ t)
 
 -- an iterator over a place gives the answer there, if there is one
 nothing_left : {A : Type 0} (d : Bool) (o : Option A) → MatchBool d (◌≡◌ {A = Option (Bor A)} None None) (None ≡ o) → length (cond d [] (option_to_list o)) ≡ 0

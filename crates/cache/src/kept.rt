@@ -1,6 +1,8 @@
 // An answer that a cache keeps.
 use header::cell::{Axis, Cell};
-use header::lengths::{PATH_ROOM, SHARE_ROOM};
+
+// The longest share and the longest path.
+pub use header::lengths::{PATH_ROOM, SHARE_ROOM};
 
 // How many answers a cache keeps.
 pub(crate) const PLACES: usize = 8;

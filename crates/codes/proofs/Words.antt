@@ -55,6 +55,13 @@ pub codeword_from_bytes : (T : Table) (k s : ℕ) (xs ws : List ℕ) → length 
 unfolding codeword
 codeword_from_bytes T k s xs ws long h = buffer_from_bytes (2 * k) s (λ i b. symbol T k (λ j. byte_of s j b xs) i) ws long h
 
+-- a codeword is that of any buffer that begins with its first k shares
+pub codeword_same : (T : Table) (k s : ℕ) (xs ys : List ℕ)
+    → ((j : ℕ) → j < k → (b : ℕ) → b < s → byte_of s j b xs ≡ byte_of s j b ys) → codeword T k s xs ≡ codeword T k s ys
+codeword_same T k s xs ys h =
+    codeword_from_bytes T k s ys (codeword T k s xs) (codeword_length T k s xs)
+    (λ i hi b hb. codeword_byte T k s i b xs hi hb ∙ applied_data k (T k i) (λ j. byte_of s j b xs) (λ j. byte_of s j b ys) (λ j hj. h j hj b hb))
+
 -- it consists of bytes
 pub codeword_small : (T : Table) (k s : ℕ) (xs : List ℕ) (n : ℕ) → get_or (codeword T k s xs) n 0 < 256
 unfolding codeword
@@ -62,6 +69,9 @@ codeword_small T k s xs n =
     buffer_below (2 * k) s 256 (λ i b. symbol T k (λ j. byte_of s j b xs) i) (lit< tt) (λ i b. applied_byte k (T k i) (λ j. byte_of s j b xs)) n
 
 -- ---- words
+
+pub word_small : (T : Table) (k s : ℕ) (ws : List ℕ) → IsWord T k s ws → (n : ℕ) → get_or ws n 0 < 256
+word_small T k s ws w n = subst (λ zs. get_or zs n 0 < 256) (sym w.own) (codeword_small T k s (take (k * s) ws) n)
 
 pub word_byte : (T : Table) (k s : ℕ) (ws : List ℕ) → IsWord T k s ws → (i b : ℕ) → i < 2 * k → b < s
     → byte_of s i b ws ≡ symbol T k (λ j. byte_of s j b ws) i

@@ -2,7 +2,7 @@
 use Rattle.std.proofs.Common.{◌≡◌, ℕ, ◌*◌, ◌%◌, true}
 use Rattle.std.proofs.lemmas.Bool.{and_parts, eqb-true, leb-true, ltb-true}
 use Rattle.hash.specs.Digests.{digest_len, parts_limit}
-use Rattle.collisions.specs.Finding.{strings_fit, Fitting}
+use Rattle.collisions.specs.Finding.{strings_fit, search_fits, Fitting}
 
 pub strings_fitting : (v w p q x y : ℕ) → strings_fit v w p q x y ≡ true → Fitting v w p q x y
 strings_fitting v w p q x y h =
@@ -23,3 +23,9 @@ strings_fitting v w p q x y h =
       pair_one = ltb-true (2 * digest_len) x b.1;
       pair_other = ltb-true (2 * digest_len) y a.1;
     }
+
+pub search_fitting : (v w p q a b x y : ℕ) → search_fits v w p q a b x y ≡ true → Fitting v w p q x y × (a ≡ digest_len) × (b ≡ digest_len)
+search_fitting v w p q a b x y h =
+    let k = and_parts _ _ h in
+    let m = and_parts _ _ k.0 in
+    (strings_fitting v w p q x y m.0, eqb-true a digest_len m.1, eqb-true b digest_len k.1)

@@ -1,6 +1,7 @@
 -- What a search finds is a collision in hand, and a search in two parts is one search.
-use Rattle.std.proofs.Common.{◌≡◌, ℕ, ◌-◌, ◌*◌, ◌/◌, ◌≤◌, List, ◌∷◌, ◌++◌, length, take, drop, Some, None, Option, sym, refl, ap, ◌∙◌, subst, arith}
+use Rattle.std.proofs.Common.{◌≡◌, ℕ, ◌-◌, ◌*◌, ◌/◌, ◌≤◌, List, ◌∷◌, ◌++◌, length, take, drop, Some, None, Option, sym, refl, ap, ◌∙◌, subst, arith, false, is_some}
 use Rattle.std.proofs.lemmas.List.{take_at, length-take-le, length-drop}
+use Rattle.std.proofs.lemmas.Bool.{true≢false}
 use Rattle.hash.specs.Digests.{digest_len}
 use Rattle.merkle.specs.Tree.{sides}
 use Rattle.merkle.specs.Climb.{Rung, alone, plain_rule, climb, levels, rungs, from_node, from_leaf, through_two}
@@ -62,6 +63,20 @@ module _ (f : List ℕ → List ℕ) (p : ℕ) (pa pb v w : List ℕ) (paths : l
       finds f sized (from_node (levels pa) p pa) (from_node (levels pb) p pb) v w None x y x y alike values
       (ap found_len (sym is)) (ap (λ o. put_one o x) (sym is)) (ap (λ o. put_other o y) (sym is))
 
+-- the same, where the search goes up the levels of the first path
+module _ (f : List ℕ → List ℕ) (p : ℕ) (pa pb v w : List ℕ) (paths : length pa ≡ length pb) where
+  same_levels : levels pa ≡ levels pb
+  same_levels = ap (λ n. n / digest_len) paths
+
+  pub leaves_find : ((m : List ℕ) → length (f m) ≡ digest_len) → (r : Option ℕ) (x y x' y' : List ℕ) → length v ≡ length w
+      → r ≡ found_len (found f (from_leaf (levels pa) p pa) (from_leaf (levels pa) p pb) v w)
+      → x' ≡ put_one (found f (from_leaf (levels pa) p pa) (from_leaf (levels pa) p pb) v w) x
+      → y' ≡ put_other (found f (from_leaf (levels pa) p pa) (from_leaf (levels pa) p pb) v w) y
+      → Finds f (from_leaf (levels pa) p pa) (from_leaf (levels pb) p pb) v w r x y x' y'
+  leaves_find sized r x y x' y' long er ex ey =
+      subst (λ k. Finds f (from_leaf (levels pa) p pa) (from_leaf k p pb) v w r x y x' y') same_levels
+      (finds f sized (from_node (levels pa) p pa) (from_node (levels pa) p pb) v w r x y x' y' (alike_slots (levels pa) p pa pb (omega arith) (omega arith)) long er ex ey)
+
 -- ---- the buffers of the ends, where something was found, and where nothing was
 module _ (f : List ℕ → List ℕ) (rs qs : List Rung) (v w : List ℕ) where
   kept : (n : ℕ) (o : Option Two) (e a : List ℕ) → ◌≡◌ {A = Option ℕ} (Some n) (found_len o) → a ≡ put_end o e a
@@ -78,6 +93,14 @@ module _ (f : List ℕ → List ℕ) (rs qs : List Rung) (v w : List ℕ) where
   pub ends_none : (a b a' b' : List ℕ) → ◌≡◌ {A = Option ℕ} None (found_len (found f rs qs v w)) → a' ≡ climb plain_rule f rs v → b' ≡ climb plain_rule f qs w
       → Ends f rs qs v w a b a' b'
   ends_none a b a' b' h ea eb = record { one = ea ∙ reached _ _ a h; other = eb ∙ reached _ _ b h }
+
+no_two : (r : Option ℕ) (o : Option Two) → r ≡ found_len o → is_some r ≡ false → o ≡ None
+no_two r None e h = refl
+no_two r (Some t) e h = absurd (true≢false (ap is_some (sym e) ∙ h))
+
+pub is_none : (r : Option ℕ) → is_some r ≡ false → r ≡ None
+is_none None h = refl
+is_none (Some n) h = absurd (true≢false h)
 
 -- ---- two parts
 
@@ -127,6 +150,13 @@ module _ (f : List ℕ → List ℕ) (rs rs' qs qs' : List Rung) (v w : List ℕ
 -- ---- chained searches
 
 module _ (f : List ℕ → List ℕ) (rs qs : List Rung) (v w : List ℕ) where
+  -- where nothing was found, the ends are written
+  pub ends_are : (r : Option ℕ) (x y x' y' a b a' b' : List ℕ) → Finds f rs qs v w r x y x' y' → Ends f rs qs v w a b a' b' → is_some r ≡ false
+      → (a' ≡ climb plain_rule f rs v) × (b' ≡ climb plain_rule f qs w)
+  ends_are r x y x' y' a b a' b' s e h =
+      let none : found f rs qs v w ≡ None = no_two r _ s.answer h in
+      (e.one ∙ ap (λ o. put_end o (climb plain_rule f rs v) a) none, e.other ∙ ap (λ o. put_end o (climb plain_rule f qs w) b) none)
+
   -- the same search, said otherwise
   pub finds_at : (rs' qs' : List Rung) (v' w' : List ℕ) (r : Option ℕ) (x y x' y' : List ℕ) → rs ≡ rs' → qs ≡ qs' → v ≡ v' → w ≡ w'
       → Finds f rs qs v w r x y x' y' → Finds f rs' qs' v' w' r x y x' y'

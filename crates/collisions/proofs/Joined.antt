@@ -2,6 +2,8 @@
 use Rattle.std.proofs.Common.{◌≡◌, ℕ, suc, ◌+◌, ◌<◌, Bool, true, false, ◌&&◌, eqb, List, [], ◌∷◌, ◌++◌, length, take, drop, sym, refl, ap, ◌∙◌, one-add, arith, length-append}
 use Rattle.std.specs.Str.{bytes_eq}
 use Rattle.std.proofs.lemmas.List.{take_at, drop_at, drop-drop, append_assoc}
+use Rattle.merkle.specs.Tree.{Side, right, left}
+use Rattle.merkle.specs.Climb.{plain_rule, beside, input}
 
 -- three writes, one after another
 pub joined_put :
@@ -33,9 +35,23 @@ and_assoc : (a b c : Bool) → (a && (b && c)) ≡ ((a && b) && c)
 and_assoc true b c = refl
 and_assoc false b c = refl
 
+and_swap : (a b : Bool) → (a && b) ≡ (b && a)
+and_swap true true = refl
+and_swap true false = refl
+and_swap false true = refl
+and_swap false false = refl
+
 pub same_append : (x x' y y' : List ℕ) → length x ≡ length x' → bytes_eq (x ++ y) (x' ++ y') ≡ (bytes_eq x x' && bytes_eq y y')
 same_append [] [] y y' h = refl
 same_append [] (b ∷ x') y y' h = absurd (omega arith)
 same_append (a ∷ x) [] y y' h = absurd (omega arith)
 same_append (a ∷ x) (b ∷ x') y y' h =
     ap (λ t. eqb a b && t) (same_append x x' y y' (omega arith)) ∙ and_assoc (eqb a b) (bytes_eq x x') (bytes_eq y y')
+
+-- what is hashed for two pairs is equal where their parts are
+pub same_pairs : (s : Side) (x x' y y' : List ℕ) → length x ≡ length x' → length y ≡ length y' → bytes_eq (input plain_rule (beside s y) x) (input plain_rule (beside s y') x') ≡ (bytes_eq x x' && bytes_eq y y')
+same_pairs right x x' y y' h k = same_append x x' y y' h
+same_pairs left x x' y y' h k = same_append y y' x x' k ∙ and_swap (bytes_eq y y') (bytes_eq x x')
+
+pub and_true : (x y : Bool) → x ≡ true → y ≡ (x && y)
+and_true x y e = rw e

@@ -1,16 +1,17 @@
 -- Rows of digests inside a longer row, and the halves of a range of a square's rows.
-use Rattle.std.proofs.Common.{◌≡◌, ℕ, suc, ◌+◌, ◌-◌, ◌*◌, ◌^◌, ◌<◌, ◌≤◌, List, ◌++◌, length, take, drop, sym, ap, ◌∙◌, mul_assoc, add-mul, pow-suc, mul-add, arith, length-append, length-drop, length-take}
+use Rattle.std.proofs.Common.{◌≡◌, ℕ, suc, ◌+◌, ◌-◌, ◌*◌, ◌^◌, ◌<◌, ◌≤◌, List, ◌++◌, length, take, drop, sym, ap, ◌∙◌, mul_assoc, add-mul, pow-suc, mul-add, arith, length-append, length-drop, length-take, inl, inr}
 use Rattle.std.proofs.lemmas.Nat.{mul-le, pow_pos}
 use Rattle.std.proofs.lemmas.List.{append_assoc, drop-append-le, drop-drop, drop-take, drop_at, length-take-le, take-append-le, take-take}
-use Rattle.std.proofs.lemmas.Bool.{cond-true, le-leb}
+use Rattle.std.proofs.lemmas.Bool.{cond-true, le-leb, cases_eq}
 use borrow.Rule.Slice.PartMut.{put_mid}
 use Rattle.octets.specs.Splice.{over}
 use Rattle.octets.proofs.Cells.{put_rest}
 use Rattle.hash.specs.Digests.{digest_len}
-use Rattle.merkle.specs.Climb.{slot}
+use Rattle.merkle.specs.Climb.{Node, slot}
 use Rattle.header.proofs.Numbers.{on_row, on_column}
 use Rattle.commitment.specs.Roots.{line_leaf}
 use Rattle.commitment.specs.Values.{value_leaf}
+use Rattle.layout.proofs.Rows.{entry_here, entry_before}
 use Rattle.layout.specs.Answers.{has_entry, put_at}
 
 -- a digest that is written where there is such an entry
@@ -51,6 +52,22 @@ module _ (w j : ℕ) (xs ys : List ℕ) (long : digest_len * w ≤ length xs) wh
   pub rest_behind : slot (w + j) (put_mid (digest_len * w) (length xs - digest_len * w) xs ys) ≡ slot j ys
   rest_behind =
       ap (slot (w + j)) (put_rest (digest_len * w) xs ys) ∙ slot_behind w j (take (digest_len * w) xs) ys (length-take-le (digest_len * w) xs long)
+
+-- one entry more from `base` on
+pub band_more : (g : ℕ → Node) (base i : ℕ) (xs ys : List ℕ) → ys ≡ over (digest_len * (base + i)) (g i) xs → length (g i) ≡ digest_len
+    → digest_len * (base + i) + digest_len ≤ length xs
+    → ((j : ℕ) → j < i → slot (base + j) xs ≡ g j) → (j : ℕ) → j < i + 1 → slot (base + j) ys ≡ g j
+band_more g base i xs ys e size within before j l =
+    ap (slot (base + j)) e
+    ∙ elim (cases_eq j i) [
+      | inl s ↦ ap (λ k. slot (base + k) (over (digest_len * (base + i)) (g i) xs)) s ∙ entry_here (base + i) (g i) xs size within ∙ ap g (sym s)
+      | inr d ↦ entry_before (base + i) (g i) xs size within (base + j) (omega arith) ∙ before j (omega arith)
+    ]
+
+-- and what is before `base` stays
+pub band_kept : (base i : ℕ) (d xs ys : List ℕ) → ys ≡ over (digest_len * (base + i)) d xs → length d ≡ digest_len
+    → digest_len * (base + i) + digest_len ≤ length xs → (m : ℕ) → m < base → slot m ys ≡ slot m xs
+band_kept base i d xs ys e size within m l = ap (slot m) e ∙ entry_before (base + i) d xs size within m (omega arith)
 
 -- what is behind an entry stays when it is written
 pub entry_after : (i : ℕ) (d xs : List ℕ) → length d ≡ digest_len → digest_len * i + digest_len ≤ length xs

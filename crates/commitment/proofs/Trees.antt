@@ -11,6 +11,7 @@ use Rattle.merkle.proofs.Layouts.{layouts_stand}
 use Rattle.layout.proofs.Entries.{entries_at}
 use Rattle.merkle.proofs.Same.{layout_same}
 use Rattle.commitment.specs.Roots.{line_leaf, square_roots}
+use Rattle.commitment.specs.Values.{value_leaf, value_tree, value_root}
 
 -- a buffer of a tree's length is one
 pub tree_is : (d n : ℕ) → d ≤ depth_limit → n ≡ tree_len d → is_tree d n ≡ true
@@ -47,6 +48,12 @@ pub root_sized : (f : List ℕ → List ℕ) → ((m : List ℕ) → length (f m
 unfolding node
 root_sized f sized leaf zero first = first
 root_sized f sized leaf (suc d) first = sized _
+
+-- the root cut from the tree over values
+pub value_root_cut : (f : List ℕ → List ℕ) → ((m : List ℕ) → length (f m) ≡ digest_len) → (d s : ℕ) (xs tree out top : List ℕ) → d ≤ depth_limit
+    → tree ≡ value_tree f d s xs → length out ≡ digest_len → top ≡ cut_root d tree out → top ≡ value_root f d s xs
+unfolding value_tree value_root
+value_root_cut f sized d s xs tree out top l e o w = root_cut f sized (value_leaf f s xs) d tree out top l (λ i b. sized _) e o w
 
 -- the root of a line among the roots
 pub roots_at : (f : List ℕ → List ℕ) → ((m : List ℕ) → length (f m) ≡ digest_len) → (w d s : ℕ) (sq : List ℕ) (n : ℕ) → n < 2 * w

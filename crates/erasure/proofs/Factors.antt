@@ -1,6 +1,6 @@
 -- A weight by its factors, and products factor by factor.
 use Rattle.std.proofs.Common.{◌≡◌, ℕ, ◌+◌, ◌*◌, ◌<◌, ◌≤◌, cond, ◌≢◌, sym, refl, ap, ◌∙◌, subst, ap₂, ⊎_elim, arith, lit<, eq-eqb, ne_eqb}
-use lib.Bits.{bit_xor}
+use lib.Bits.{bit_xor, xor_lt}
 use Rattle.std.proofs.lemmas.Bool.{cases_eq}
 use Rattle.galois.specs.Field.{mul, inv}
 use Rattle.galois.proofs.Law as field
@@ -9,6 +9,9 @@ use Rattle.codes.specs.Code.{Places, lagrange}
 use Rattle.codes.proofs.Ring as ring
 use Rattle.codes.proofs.Bytes.{bytes, inverse, separate}
 use Rattle.erasure.specs.Weights.{numerator, denominator, weight_by}
+
+pub byte_xor : (a b : ℕ) → a < 256 → b < 256 → bit_xor a b < 256
+byte_xor a b ha hb = xor_lt 8 a b ha hb
 
 -- ---- a product, one factor after the other, with one left out
 

@@ -1,15 +1,15 @@
 -- The shares behind the data.
-use Rattle.std.proofs.Common.{◌≡◌, ℕ, ◌+◌, ◌-◌, ◌*◌, ◌/◌, ◌%◌, ◌<◌, ◌≤◌, true, cond, ◌&&◌, eqb, leb, List, ◌++◌, length, get_or, take, drop, sym, ap, ◌∙◌, subst, ap₂, inl, inr, mod-lt, arith, lit<, length-append, length-drop, length-take}
+use Rattle.std.proofs.Common.{◌≡◌, ℕ, ◌+◌, ◌-◌, ◌*◌, ◌/◌, ◌%◌, ◌<◌, ◌≤◌, true, cond, ◌&&◌, eqb, ltb, leb, List, ◌++◌, length, get_or, take, drop, sym, ap, ◌∙◌, subst, ap₂, inl, inr, mod-lt, div-add-mod', arith, lit<, length-append, length-drop, length-take}
 use borrow.Rule.Slice.PartMut.{put_mid}
-use Rattle.std.proofs.lemmas.Nat.{div-mul-add, mod-mul-add}
+use Rattle.std.proofs.lemmas.Nat.{div-mul-add, mod-mul-add, mul-le}
 use Rattle.std.proofs.lemmas.List.{take-append-drop, take_at, get_or-take, get_or_append_left, get_or_past}
-use Rattle.std.proofs.lemmas.Bool.{and_parts, and_from, eqb-true, eq-eqb, leb-true, le-leb, cases_lt, cond-true}
+use Rattle.std.proofs.lemmas.Bool.{and_parts, and_from, eqb-true, eq-eqb, ne_eqb, leb-true, le-leb, lt-ltb, le-ltb, cases_eq, cases_lt, cond-true, cond-false}
 use Rattle.octets.specs.Shares.{share, byte_of}
-use Rattle.octets.proofs.Shares.{same_from_bytes, share_read, share_length, share_byte_lem}
+use Rattle.octets.proofs.Shares.{same_from_bytes, byte_take, share_read, share_length, share_byte_lem}
 use Rattle.octets.proofs.Cells.{both_halves, byte_drop, byte_cell, by_cells, cell_below, put_rest}
 use Rattle.codes.specs.Code.{Table, Weight, Places, FirstLaw, WeightLaw, Meets, applied, symbol}
 use Rattle.codes.specs.Words.{at, codeword}
-use Rattle.codes.proofs.Words.{applied_row, applied_data, applied_low, codeword_length, codeword_byte, codeword_front}
+use Rattle.codes.proofs.Words.{applied_row, applied_data, applied_low, codeword_length, codeword_from_bytes, codeword_byte, codeword_front}
 use Rattle.erasure.specs.Limits.{ok_width}
 use Rattle.erasure.specs.Calls.{parity_fits, complete_fits}
 use Rattle.erasure.specs.Weights.{CodeRows, weight_table}
@@ -19,6 +19,20 @@ use Rattle.erasure.proofs.Tables.{table_byte, table_long}
 use Rattle.erasure.proofs.Recovers.{first_rises}
 
 -- ---- lengths
+
+-- n is k times the size if the quotient is the size and nothing is left
+pub holds_by_rest : (k size n : ℕ) → n / k ≡ size → eqb (n % k) 0 ≡ eqb n (k * size)
+holds_by_rest k size n e =
+    let d : size * k + n % k ≡ n = ap (λ (x : ℕ). x * k + n % k) (sym e) ∙ div-add-mod' n k in
+    elim (cases_eq (n % k) 0) [
+      | inl z ↦ eq-eqb (n % k) 0 z ∙ sym (eq-eqb n (k * size) (omega arith))
+      | inr z ↦ ne_eqb (n % k) 0 z ∙ sym (ne_eqb n (k * size) (λ f. z (omega arith)))
+    ]
+
+pub holds_not : (k size n : ℕ) → 0 < k → (n / k ≡ size → ⊥) → eqb (n / k) size ≡ eqb n (k * size)
+holds_not k size n h d =
+    ne_eqb (n / k) size d
+    ∙ sym (ne_eqb n (k * size) (λ f. d (ap (λ (x : ℕ). x / k) (let e : n ≡ size * k + 0 = omega arith in e) ∙ div-mul-add size k 0 h)))
 
 -- what it takes to have a parity
 pub record ParityFits (k size n m : ℕ) : Type 0 where
@@ -60,6 +74,12 @@ half_byte k i j rows long hi hj =
     let e : 2 * k * k ≡ k * k + k * k = both_halves k k in
     let l : i * k + j < k * k = cell_below k k i j hi hj in
     get_or-take (length rows - k * k) (drop (k * k) rows) (i * k + j) 0 (omega arith) ∙ byte_drop k k i j rows
+
+pub half_row_byte : (k i j : ℕ) (rows : List ℕ) → i < k → j < k → byte_of k i j (take (2 * k * k - k * k) (drop (k * k) rows)) ≡ byte_of k (k + i) j rows
+half_row_byte k i j rows hi hj =
+    let e : 2 * k * k ≡ k * k + k * k = both_halves k k in
+    let l : i * k + j < k * k = cell_below k k i j hi hj in
+    get_or-take (2 * k * k - k * k) (drop (k * k) rows) (i * k + j) 0 (omega arith) ∙ byte_drop k k i j rows
 
 -- the weights of the shares at the first k places are the rows of the code
 pub front_weights : (T : Table) (W : Weight) → WeightLaw T W → (k : ℕ) → k ≤ 128 → (p d : ℕ → ℕ) → Places k p → ((j : ℕ) → j < k → p j ≡ j)
@@ -188,3 +208,60 @@ by_share_bytes k w s R xs out h i hi =
     ∙ ap (λ (r : ℕ). applied k (R r) (λ j. byte_of s (j * w + (i * w + c) % w) b xs)) (div-mul-add i w c hc)
     ∙ applied_data k (R i) (λ j. byte_of s (j * w + (i * w + c) % w) b xs) (λ j. byte_of (w * s) j (c * s + b) xs)
     (λ j hj. ap (λ (r : ℕ). byte_of s (j * w + r) b xs) (mod-mul-add i w c hc) ∙ sym (byte_cell w s j c b xs)))
+
+-- the same of all shares, of which the first k stay, shares being of w cells of s bytes: what is said of each cell's bytes, said of each share's
+pub kept_share_bytes : (k w s : ℕ) (R : ℕ → ℕ → ℕ) (old new : List ℕ) → length new ≡ 2 * k * (w * s)
+    → ((m : ℕ) → m < 2 * k * w → (b : ℕ) → b < s
+    → byte_of s m b new ≡ cond (ltb m (k * w)) (byte_of s m b old) (applied k (R (m / w)) (λ j. byte_of s (j * w + m % w) b old)))
+    → (i : ℕ) → i < 2 * k → (x : ℕ) → x < w * s
+    → byte_of (w * s) i x new ≡ cond (ltb i k) (byte_of (w * s) i x old) (applied k (R i) (λ j. byte_of (w * s) j x old))
+kept_share_bytes k w s R old new long h i hi =
+    by_cells w s (λ x. byte_of (w * s) i x new ≡ cond (ltb i k) (byte_of (w * s) i x old) (applied k (R i) (λ j. byte_of (w * s) j x old))) at
+  where
+    at : (c b : ℕ) → c < w → b < s
+        → byte_of (w * s) i (c * s + b) new
+        ≡ cond (ltb i k) (byte_of (w * s) i (c * s + b) old) (applied k (R i) (λ j. byte_of (w * s) j (c * s + b) old))
+    at c b hc hb =
+        let here : byte_of (w * s) i (c * s + b) new
+        ≡ cond (ltb (i * w + c) (k * w)) (byte_of s (i * w + c) b old) (applied k (R ((i * w + c) / w)) (λ j. byte_of s (j * w + (i * w + c) % w) b old)) =
+        byte_cell w s i c b new ∙ h (i * w + c) (cell_below (2 * k) w i c hi hc) b hb in
+        elim (cases_lt i k) [
+          | inl l ↦
+              here
+              ∙ cond-true (ltb (i * w + c) (k * w)) (byte_of s (i * w + c) b old)
+              (applied k (R ((i * w + c) / w)) (λ j. byte_of s (j * w + (i * w + c) % w) b old)) (lt-ltb (i * w + c) (k * w) (cell_below k w i c l hc))
+              ∙ sym (byte_cell w s i c b old)
+              ∙ sym (cond-true (ltb i k) (byte_of (w * s) i (c * s + b) old) (applied k (R i) (λ j. byte_of (w * s) j (c * s + b) old)) (lt-ltb i k l))
+          | inr l ↦
+              here
+              ∙ cond-false (ltb (i * w + c) (k * w)) (byte_of s (i * w + c) b old)
+              (applied k (R ((i * w + c) / w)) (λ j. byte_of s (j * w + (i * w + c) % w) b old))
+              (le-ltb (i * w + c) (k * w) (let t : k * w ≤ i * w = mul-le k w i w l (omega arith) in omega arith))
+              ∙ ap (λ (r : ℕ). applied k (R r) (λ j. byte_of s (j * w + (i * w + c) % w) b old)) (div-mul-add i w c hc)
+              ∙ applied_data k (R i) (λ j. byte_of s (j * w + (i * w + c) % w) b old) (λ j. byte_of (w * s) j (c * s + b) old)
+              (λ j hj. ap (λ (r : ℕ). byte_of s (j * w + r) b old) (mod-mul-add i w c hc) ∙ sym (byte_cell w s j c b old))
+              ∙ sym (cond-false (ltb i k) (byte_of (w * s) i (c * s + b) old) (applied k (R i) (λ j. byte_of (w * s) j (c * s + b) old)) (le-ltb i k l))
+        ]
+
+-- the data as they were, and the shares behind them by the rows of the code
+pub completed : (T : Table) → FirstLaw T → (k s : ℕ) → k ≤ 128 → (R : ℕ → ℕ → ℕ) (old new : List ℕ) → length new ≡ 2 * k * s → ((n : ℕ) → get_or new n 0 < 256)
+    → ((i : ℕ) → i < 2 * k → (d : ℕ → ℕ) → applied k (R i) d ≡ symbol T k d i)
+    → ((i : ℕ) → i < 2 * k → (b : ℕ) → b < s
+    → byte_of s i b new ≡ cond (ltb i k) (byte_of s i b old) (applied k (R i) (λ j. byte_of s j b old)))
+    → new ≡ codeword T k s (take (k * s) old)
+completed T first k s hk R old new long small rows h =
+    codeword_from_bytes T k s (take (k * s) old) new long
+    (λ i hi b hb.
+    at i hi b hb ∙ sym (applied_data k (T k i) (λ j. byte_of s j b (take (k * s) old)) (λ j. byte_of s j b old) (λ j hj. byte_take k s j b old hj hb)))
+  where
+    at : (i : ℕ) → i < 2 * k → (b : ℕ) → b < s → byte_of s i b new ≡ symbol T k (λ j. byte_of s j b old) i
+    at i hi b hb =
+        elim (cases_lt i k) [
+          | inl l ↦
+              let e : byte_of s i b new ≡ byte_of s i b old =
+              h i hi b hb ∙ cond-true (ltb i k) (byte_of s i b old) (applied k (R i) (λ j. byte_of s j b old)) (lt-ltb i k l) in
+              e ∙ sym (first k hk (λ j. byte_of s j b old) i l (subst (λ (x : ℕ). x < 256) e (small (i * s + b))))
+          | inr l ↦
+              h i hi b hb ∙ cond-false (ltb i k) (byte_of s i b old) (applied k (R i) (λ j. byte_of s j b old)) (le-ltb i k l)
+              ∙ rows i hi (λ j. byte_of s j b old)
+        ]

@@ -1,5 +1,5 @@
 -- Tables of weights.
-use Rattle.std.proofs.Common.{◌≡◌, ℕ, ◌*◌, ◌<◌, ◌≤◌, true, cond, ◌&&◌, eqb, List, length, sym, refl, ap, ◌∙◌, arith}
+use Rattle.std.proofs.Common.{◌≡◌, ℕ, ◌-◌, ◌*◌, ◌<◌, ◌≤◌, true, cond, ◌&&◌, eqb, List, length, take, drop, replicate, sym, refl, ap, ◌∙◌, arith, length-drop, length-take}
 use Rattle.std.proofs.lemmas.Nat.{mul-le}
 use Rattle.std.proofs.lemmas.Bool.{and_parts, and_from, eqb-true, eq-eqb, cond-true}
 use Rattle.octets.specs.Shares.{byte_of}
@@ -37,6 +37,9 @@ weighable_from ps n w r e =
 pub room : (k : ℕ) → k ≤ 32 → 2 * k * k ≤ 2048
 room k l = mul-le (2 * k) k 64 32 (omega arith) l
 
+pub room_long : (n : ℕ) → n ≤ 2048 → length (take (n - 0) (drop 0 (replicate {A = ℕ} 2048 0))) ≡ n
+room_long n h = simp (length-take, length-drop) (omega arith)
+
 -- once the weights are written they stand there
 pub weighed_whole : (W : Weight) (ps old : List ℕ) → ok_width (length ps) ≡ true → rising_below (2 * length ps) ps ≡ true → length old ≡ 2 * length ps * length ps
     → weighed W ps old ≡ weight_table W (length ps) ps
@@ -49,6 +52,13 @@ table_byte W k ps i j hi hj = buffer_byte (2 * k) k (λ i j. W k (at ps) i j) i 
 pub table_long : (W : Weight) (k : ℕ) (ps : List ℕ) → length (weight_table W k ps) ≡ 2 * k * k
 unfolding weight_table
 table_long W k ps = buffer_length (2 * k) k (λ i j. W k (at ps) i j)
+
+pub weighed_at : (W : Weight) (ps old : List ℕ) → weighable ps (length old) ≡ true → (i j : ℕ) → i < 2 * length ps → j < length ps
+    → byte_of (length ps) i j (weighed W ps old) ≡ W (length ps) (at ps) i j
+unfolding weight_table
+weighed_at W ps old h i j hi hj =
+    ap (λ t. byte_of (length ps) i j (cond t (weight_table W (length ps) ps) old)) h
+    ∙ buffer_byte (2 * length ps) (length ps) (λ i j. W (length ps) (at ps) i j) i j hi hj
 
 pub weighed_from : (W : Weight) (ps old new : List ℕ) → weighable ps (length old) ≡ true → length new ≡ length old
     → ((i : ℕ) → i < 2 * length ps → (j : ℕ) → j < length ps → byte_of (length ps) i j new ≡ W (length ps) (at ps) i j)

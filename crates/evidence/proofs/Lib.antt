@@ -1,2 +1,3 @@
 pub mod Climbs
+pub mod Joining
 pub mod Proving

@@ -1,5 +1,5 @@
 -- The laws of extended squares.
-use Rattle.std.proofs.Common.{◌≡◌, ℕ, ◌+◌, ◌*◌, ◌%◌, ◌<◌, ◌≤◌, List, length, get_or, sym, ◌∙◌, arith}
+use Rattle.std.proofs.Common.{◌≡◌, ℕ, ◌+◌, ◌*◌, ◌%◌, ◌<◌, ◌≤◌, List, length, get_or, sym, ap, ◌∙◌, arith}
 use Rattle.octets.specs.Shares.{byte_of}
 use Rattle.codes.specs.Code.{Table, FirstLaw, SecondLaw, symbol}
 use Rattle.codes.specs.Grid.{extended}
@@ -69,6 +69,11 @@ extension_quadrant T first k s hk d long small =
     sym (extension_byte T k s d r c b (omega arith) (omega arith) hb
     ∙ extended_data T first k hk (λ i j. cell_byte k s i j b d) r c hr hc (small ((r * k + c) * s + b)))))
 
+-- which therefore gives it back
+pub extension_own : (T : Table) → FirstLaw T → (k s : ℕ) → k ≤ 128 → (d : List ℕ) → length d ≡ k * k * s → ((n : ℕ) → get_or d n 0 < 256)
+    → extension T k s (quadrant k s (extension T k s d)) ≡ extension T k s d
+extension_own T first k s hk d long small = ap (extension T k s) (extension_quadrant T first k s hk d long small)
+
 -- ---- any square whose lines are codewords
 
 pub coded_is_extension : CodedIsExtension
@@ -92,3 +97,9 @@ coded_is_extension T k s sq long coded =
         sym (line_byte k s Column c sq r b hr hb) ∙ word_byte T k s (line_shares k s Column c sq) (coded Column c hc) r b hr hb
         ∙ applied_data k (T k r) (λ i. byte_of s i b (line_shares k s Column c sq)) (λ i. cell_byte (2 * k) s i c b sq)
         (λ i hi. line_byte k s Column c sq i b (omega arith) hb)
+
+-- two of them with one first quadrant are equal
+pub coded_same : (T : Table) (k s : ℕ) (xs ys : List ℕ) → length xs ≡ 2 * k * (2 * k) * s → length ys ≡ 2 * k * (2 * k) * s
+    → LinesCoded T k s xs → LinesCoded T k s ys → quadrant k s xs ≡ quadrant k s ys → xs ≡ ys
+coded_same T k s xs ys lx ly cx cy e =
+    coded_is_extension T k s xs lx cx ∙ ap (extension T k s) e ∙ sym (coded_is_extension T k s ys ly cy)

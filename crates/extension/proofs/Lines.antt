@@ -1,8 +1,8 @@
 -- The lines of a square.
-use Rattle.std.proofs.Common.{◌≡◌, ℕ, ◌+◌, ◌*◌, ◌<◌, ◌≤◌, true, List, length, sym, ◌∙◌}
+use Rattle.std.proofs.Common.{◌≡◌, ℕ, ◌+◌, ◌*◌, ◌<◌, ◌≤◌, true, List, length, sym, ◌∙◌, mul_assoc}
 use Rattle.octets.specs.Shares.{share, byte_of}
-use Rattle.octets.proofs.Shares.{share_from_bytes, same_from_bytes, buffer_length, buffer_byte}
-use Rattle.octets.proofs.Cells.{cell_below}
+use Rattle.octets.proofs.Shares.{share_length, share_from_bytes, same_from_bytes, buffer_length, buffer_byte}
+use Rattle.octets.proofs.Cells.{cell_below, byte_row}
 use Rattle.codes.specs.Code.{Table, SecondLaw, Places}
 use Rattle.codes.specs.Words.{at, IsWord, Through}
 use Rattle.erasure.specs.Places.{rising_below}
@@ -49,6 +49,13 @@ pub line_from_bytes : (k s : ℕ) (axis : Axis) (i : ℕ) (sq xs : List ℕ) →
 line_from_bytes k s axis i sq xs long h =
     same_from_bytes (2 * k) s xs (line_shares k s axis i sq) long (line_length k s axis i sq)
     (λ p hp b hb. h p hp b hb ∙ sym (line_byte k s axis i sq p b hp hb))
+
+-- a row is one part of the square
+pub line_row : (k s i : ℕ) (sq : List ℕ) → length sq ≡ 2 * k * (2 * k) * s → i < 2 * k → line_shares k s Row i sq ≡ share (2 * k * s) i sq
+line_row k s i sq long hi =
+    sym (line_from_bytes k s Row i sq (share (2 * k * s) i sq)
+    (share_length (2 * k * s) i (2 * k) sq (long ∙ mul_assoc (2 * k) (2 * k) s) hi)
+    (λ p hp b hb. byte_row (2 * k) s i p b sq hp hb))
 
 -- ---- shares picked from a line
 

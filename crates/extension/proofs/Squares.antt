@@ -50,6 +50,10 @@ extension_by_columns_lem T k s d =
 
 -- ---- the first quadrant
 
+pub quadrant_length : (k s : ℕ) (sq : List ℕ) → length (quadrant k s sq) ≡ k * k * s
+unfolding quadrant
+quadrant_length k s sq = grid_length k s (λ r c b. cell_byte (2 * k) s r c b sq)
+
 pub quadrant_byte : (k s : ℕ) (sq : List ℕ) (r c b : ℕ) → r < k → c < k → b < s
     → cell_byte k s r c b (quadrant k s sq) ≡ cell_byte (2 * k) s r c b sq
 unfolding quadrant

@@ -5,3 +5,4 @@ pub mod Paths
 pub mod Collides
 pub mod Comparing
 pub mod Extracting
+pub mod Refusing

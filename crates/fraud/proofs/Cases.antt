@@ -1,14 +1,14 @@
 -- The witnesses of a proof, one after the other.
-use Rattle.std.proofs.Common.{◌≡◌, ℕ, zero, suc, ◌+◌, ◌-◌, ◌*◌, ◌/◌, ◌<◌, ◌≤◌, Bool, true, not, List, [], ◌∷◌, ◌++◌, map, length, get_or, take, drop, Some, None, Option, sym, refl, ap, ◌∙◌, subst, inl, inr, suc-mul, zero-add, arith, lit<, length-append, length-take}
+use Rattle.std.proofs.Common.{◌≡◌, ℕ, zero, suc, ◌+◌, ◌-◌, ◌*◌, ◌/◌, ◌<◌, ◌≤◌, Bool, true, not, List, [], ◌∷◌, ◌++◌, map, length, get_or, take, drop, Some, None, Option, sym, refl, ap, ◌∙◌, subst, inl, inr, suc-mul, zero-add, arith, lit<, length-append, length-take, false, cond, ltb}
 use Rattle.std.specs.List.{range_with_len, flat_map, position_from}
 use Rattle.std.proofs.lemmas.List.FromFn.{length-map-range_with_len, get_or-map-range_with_len}
 use Rattle.std.proofs.lemmas.List.{ext_get_or, get_or_append_left, get_or-append_right, get_or-take, get_or-drop, get_or_past}
-use Rattle.std.proofs.lemmas.Bool.{cond-true, cond-false, cases_Bool, cases_lt}
+use Rattle.std.proofs.lemmas.Bool.{cond-true, cond-false, cases_Bool, cases_lt, lt-ltb}
 use Rattle.std.proofs.lemmas.Nat.{div-mul-add}
 use Rattle.header.specs.Fields.{Fields}
 use Rattle.wire.specs.Values.{Witness}
 use Rattle.fraudproof.specs.Proof.{witness_len, witness_at}
-use Rattle.fraudproof.specs.Witness.{witnesses_of}
+use Rattle.fraudproof.specs.Witness.{witnesses_of, witness_in}
 use Rattle.fraud.specs.Accepted.{Every, places_of, shares_of}
 use Rattle.fraud.specs.Check.{first_failing}
 
@@ -37,6 +37,27 @@ module _ (test : Witness → Bool) where
         | inl t ↦ rw t (first_is (n + 1) ws)
         | inr f ↦ rw f refl
       ]
+
+  -- going through the witnesses: those from i on are left
+  module _ (g : ℕ → Witness) where
+    from_there : (i m : ℕ) → first_failing test i (map g (range_with_len i (suc m))) ≡ cond (test (g i)) (first_failing test (i + 1) (map g (range_with_len (i + 1) m))) (Some i)
+    unfolding first_failing
+    from_there i m = refl
+
+    pub fails_later : (i k : ℕ) → i < k → test (g i) ≡ true
+        → first_failing test i (map g (range_with_len i (k - i))) ≡ first_failing test (i + 1) (map g (range_with_len (i + 1) (k - (i + 1))))
+    fails_later i k l t =
+        let e : k - i ≡ suc (k - (i + 1)) = omega arith in
+        ap (λ m. first_failing test i (map g (range_with_len i m))) e ∙ from_there i (k - (i + 1)) ∙ cond-true (test (g i)) _ _ t
+
+    pub fails_here : (i k : ℕ) → i < k → test (g i) ≡ false → first_failing test i (map g (range_with_len i (k - i))) ≡ Some i
+    fails_here i k l f =
+        let e : k - i ≡ suc (k - (i + 1)) = omega arith in
+        ap (λ m. first_failing test i (map g (range_with_len i m))) e ∙ from_there i (k - (i + 1)) ∙ cond-false (test (g i)) _ _ f
+
+    pub fails_none : (i k : ℕ) → k ≤ i → first_failing test i (map g (range_with_len i (k - i))) ≡ None
+    unfolding first_failing
+    fails_none i k l = let e : k - i ≡ 0 = omega arith in ap (λ m. first_failing test i (map g (range_with_len i m))) e
 
 -- ---- going through the witnesses
 
@@ -139,3 +160,16 @@ part_small s m xs n small =
       | inl l ↦ subst (λ x. x < 256) (sym (get_or-take s (drop m xs) n 0 l ∙ get_or-drop m xs n 0)) (small (m + n))
       | inr l ↦ subst (λ x. x < 256) (sym (get_or_past (take s (drop m xs)) n 0 (simp length-take (omega arith)))) (lit< tt)
     ]
+
+-- ---- the records
+
+-- each of the k witnesses is there
+pub witness_found : (h : Fields) (ws : List ℕ) (i : ℕ) → length ws ≡ h.k * witness_len h → i < h.k
+    → ◌≡◌ {A = Option Witness} (witness_in h ws i) (Some (witness_at h ws i))
+witness_found h ws i long l =
+    let e : length ws / witness_len h ≡ h.k =
+    ap (λ n. n / witness_len h) (let t : length ws ≡ h.k * witness_len h + 0 = omega arith in t) ∙ div-mul-add h.k (witness_len h) 0 (omega arith) in
+    cond-true (ltb i (length ws / witness_len h)) _ _ (ap (ltb i) e ∙ lt-ltb i h.k l)
+
+pub never_none : {A : Type 0} (w : Witness) → ◌≡◌ {A = Option Witness} None (Some w) → A
+never_none w e = absurd (let z : ◌≡◌ {A = ℕ} 0 1 = cc in omega arith)

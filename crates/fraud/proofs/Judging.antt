@@ -1,5 +1,5 @@
 -- Nothing is refused exactly if the proof condemns the block.
-use Rattle.std.proofs.Common.{◌≡◌, ℕ, Bool, true, false, cond, not, List, length, Some, None, Ok, Err, Option, Result, sym, refl, ap, ◌∙◌, arith}
+use Rattle.std.proofs.Common.{◌≡◌, ℕ, Bool, true, false, cond, not, List, [], ◌∷◌, length, Some, None, Ok, Err, Option, Result, sym, refl, ap, ◌∙◌, arith}
 use Rattle.std.specs.Str.{bytes_eq}
 use Rattle.std.proofs.lemmas.Bool.{both_ways}
 use Rattle.octets.specs.Outcome.{Refused, plain}
@@ -45,6 +45,24 @@ passes true true None false e = record { first = refl; second = refl; third = re
 passed : (a b : Bool) (o : Option ℕ) (d : Bool) → a ≡ true → b ≡ true → o ≡ None → d ≡ false → chain a b o d ≡ Ok tt
 passed a b o d p q r t =
     ap (λ x. chain x b o d) p ∙ ap (λ x. chain true x o d) q ∙ ap (λ x. chain true true x d) r ∙ ap (λ x. chain true true None x) t
+
+module _ (f : List ℕ → List ℕ) (W : Weight) (h : Fields) (p : Case) (a : is_committed f h p.claim ≡ true)
+    (b : rising_below (width h) (places_of p.witnesses) ≡ true) where
+  abbrev after : Option ℕ → Bool → Result (Unit {0}) Refused
+  after o d = chain (is_committed f h p.claim) (rising_below (width h) (places_of p.witnesses)) o d
+
+  so_far : (o : Option ℕ) (d : Bool) → after o d ≡ chain true true o d
+  so_far o d = ap (λ x. chain x (rising_below (width h) (places_of p.witnesses)) o d) a ∙ ap (λ x. chain true x o d) b
+
+  pub judged_unverified : (i : ℕ) → first_failing (vouches f h p.claim) 0 p.witnesses ≡ Some i
+      → ◌≡◌ {A = Result (Unit {0}) Refused} (Err (record { number = 20; values = i ∷ [] })) (judged f W h p)
+  judged_unverified i e =
+      sym (ap (λ o. after o (bytes_eq (word_root f W h p.witnesses) p.claim.root)) e ∙ so_far (Some i) (bytes_eq (word_root f W h p.witnesses) p.claim.root))
+
+  pub judged_last : first_failing (vouches f h p.claim) 0 p.witnesses ≡ None → (d : Bool) → bytes_eq (word_root f W h p.witnesses) p.claim.root ≡ d
+      → cond d (Err (plain 21)) (Ok tt) ≡ judged f W h p
+  judged_last e d s =
+      sym (ap (λ o. after o (bytes_eq (word_root f W h p.witnesses) p.claim.root)) e ∙ so_far None (bytes_eq (word_root f W h p.witnesses) p.claim.root) ∙ ap (λ x. chain true true None x) s)
 
 module _ (f : List ℕ → List ℕ) (T : Table) (W : Weight) (second : SecondLaw T) (h : Fields) (wide : ok_width h.k ≡ true) (p : Case)
     (many : length p.witnesses ≡ h.k) where

@@ -73,6 +73,16 @@ claim_read h at bs x rest v p is =
       behind = omega (arith, ap length q.0, length-drop (head_len + body_for h (kind_in bs)) bs, q.1, f);
     }
 
+-- its record has the body of a claim, and what is behind it is no longer than all
+pub claim_long : (h : Fields) (at : ℕ) (bs : List ℕ) (x : Rec) (rest : List ℕ) → reads_at h due.Claim at bs ≡ Ok (x, rest) → (body_len bs ≡ claim_body_len h) × (length rest ≤ length bs)
+unfolding is_due body_for
+claim_long h at bs x rest p =
+    let c = cut_at h due.Claim at bs x rest p in
+    let k : kind_in bs ≡ 16 = eqb-true _ 16 c.isdue in
+    let f : body_for h (kind_in bs) ≡ claim_body_len h = ap (body_for h) k in
+    let q = behind_is h due.Claim bs x rest c in
+    (c.body ∙ f, omega (arith, ap length q.0, length-drop (head_len + body_for h (kind_in bs)) bs))
+
 module _ (h : Fields) (bs : List ℕ) where
   pub no_claim : (e : Refused) → Err e ≡ reads_at h due.Claim 0 bs → Err e ≡ case_outcome h bs
   unfolding case_outcome

@@ -87,6 +87,23 @@ pub record Walked (h : Fields) (k start : ℕ) (ws : List ℕ) (i at : ℕ) (res
   pub places : (j : ℕ) → j < i → (witness_at h ws j).place < width h
   pub axes : (j : ℕ) → j < i → (witness_at h ws j).axis ≤ 1
 
+pub walk_none : (h : Fields) (k start : ℕ) (ws : List ℕ) → Walked h k start ws 0 start ws
+walk_none h k start ws =
+    let z : k - 0 ≡ k = omega arith in
+    let zero-times : 0 * witness_len h ≡ 0 = omega arith in
+    record {
+      at_is = omega arith;
+      rest_is = ap (λ m. drop m ws) (sym zero-times);
+      inside = omega arith;
+      whole = none (witnesses_from h k start ws) ∙ ap (λ m. prepend [] (witnesses_from h m start ws)) (sym z);
+      places = λ j l. absurd (omega arith);
+      axes = λ j l. absurd (omega arith);
+    }
+  where
+    none : (r : Result (List values.Witness) Refused) → r ≡ prepend [] r
+    none (Ok ws) = refl
+    none (Err e) = refl
+
 -- one step of the reading, where a witness is due
 step : (h : Fields) (n at : ℕ) (bs : List ℕ) → 0 < n → witnesses_from h n at bs ≡ go_on (witnesses_from h (n - 1)) at (length bs) (reads_at h due.Witness at bs)
 unfolding witnesses_from

@@ -81,6 +81,12 @@ pub inv_byte : (a : ℕ) → inv a < 256
 unfolding inv squares
 inv_byte a = mul_byte (mul a a) (squares 6 (mul (mul a a) (mul a a)))
 
+-- an inverse is known by its product
+pub inv_is : (a b : ℕ) → 0 < a → a < 256 → b < 256 → mul a b ≡ 1 → b ≡ inv a
+inv_is a b p ha hb e =
+    sym (one_mul_byte b hb) ∙ ap (λ (x : ℕ). mul x b) (sym (mul_inv a p ha) ∙ mul_comm a (inv a))
+    ∙ mul_assoc (inv a) a b ∙ ap (mul (inv a)) e ∙ mul_comm (inv a) 1 ∙ one_mul_byte (inv a) (inv_byte a)
+
 inv_zero : inv 0 ≡ 0
 unfolding inv squares
 inv_zero = ap (λ (x : ℕ). mul x (squares 6 (mul x x))) (mul-zero 0) ∙ zero-mul (squares 6 (mul 0 0))

@@ -29,6 +29,10 @@ pub depth_most : (k : ℕ) → depth_of k ≤ 6
 unfolding depth_of
 depth_most k = grind (arith, nat_tests)
 
+pub depth_some : (k : ℕ) → 1 ≤ depth_of k
+unfolding depth_of
+depth_some k = grind (arith, nat_tests)
+
 -- the lines' trees have as many leaves as a line has cells
 pub depth_power : (k : ℕ) → ok_width k ≡ true → 2 ^ depth_of k ≡ 2 * k
 unfolding depth_of

@@ -2,8 +2,11 @@
 use Rattle.std.proofs.Common.{◌≡◌, ℕ, ◌+◌, ◌≤◌, true, List, [], ◌++◌, length, take, sym, refl, ap, ◌∙◌, arith}
 use borrow.Rule.Slice.PartMut.{put_mid}
 use Rattle.std.specs.List.{range_with_len, flat_map}
+use Rattle.std.proofs.lemmas.List.{append_assoc, append-nil}
+use Rattle.octets.specs.Splice.{over}
 use Rattle.std.proofs.lemmas.Slice.{take-put_mid}
 use Rattle.octets.proofs.Joins.{joined_last}
+use Rattle.octets.proofs.Splices.{take_over}
 use Rattle.hash.specs.Digests.{digest_len}
 use Rattle.merkle.proofs.Layouts.{layouts_stand}
 use Rattle.erasure.specs.Limits.{ok_width}
@@ -37,3 +40,19 @@ module _ (f : List ℕ → List ℕ) (sized : (m : List ℕ) → length (f m) �
   pub trees_none : (sq : List ℕ) → [] ≡ row_trees f h sq 0
   unfolding row_trees
   trees_none sq = refl
+
+  -- the same behind a front
+  pub trees_behind : (sq : List ℕ) (n at next : ℕ) (front xs ys : List ℕ) → take at xs ≡ front ++ row_trees f h sq n → ys ≡ over at (line_tree f h sq n) xs
+      → at + axis_tree_len h ≤ length xs → next ≡ at + axis_tree_len h → take next ys ≡ front ++ row_trees f h sq (n + 1)
+  unfolding row_trees
+  trees_behind sq n at next front xs ys e y within is =
+      let long = tree_long sq n in
+      ap (take next) y
+      ∙ take_over at (line_tree f h sq n) xs (omega arith) next (omega arith)
+      ∙ ap (λ x. x ++ line_tree f h sq n) e
+      ∙ append_assoc front (flat_map (line_tree f h sq) (range_with_len 0 n)) (line_tree f h sq n)
+      ∙ ap (λ x. front ++ x) (ap (λ i. flat_map (line_tree f h sq) (range_with_len 0 n) ++ line_tree f h sq i) (omega arith) ∙ sym (joined_last (line_tree f h sq) 0 n))
+
+  pub no_trees_behind : (sq front : List ℕ) → front ≡ front ++ row_trees f h sq 0
+  unfolding row_trees
+  no_trees_behind sq front = sym (append-nil front)

@@ -10,6 +10,28 @@ use Rattle.hash.specs.Digests.{digest_len}
 use Rattle.merkle.specs.Tree.{side, sides}
 use Rattle.merkle.specs.Climb.{Rule, Rung, beside, rungs, slot, slots, climb, inputs, above, input, plain_rule, from_node}
 
+-- what is left of a climb of d levels after i of them, at place p
+abbrev pub left : ℕ → ℕ → ℕ → List ℕ → List Rung
+left d i p path = from_node (d - i) p (drop (digest_len * i) path)
+
+pub left_none : (d p : ℕ) (path : List ℕ) → left d 0 p path ≡ from_node d p path
+left_none d p path = ap (λ k. from_node k p path) (omega arith)
+
+pub left_more : (d i p : ℕ) (path : List ℕ) → i < d → left d i p path ≡ beside (side p) (slot i path) ∷ left d (i + 1) (p / 2) path
+unfolding rungs sides slots
+left_more d i p path h =
+    let k = d - (i + 1) in
+    let one : d - i ≡ suc k = omega arith in
+    ap (λ m. from_node m p (drop (digest_len * i) path)) one
+    ∙ ap (λ q. beside (side p) (slot i path) ∷ from_node k (p / 2) q) (drop-drop digest_len (digest_len * i) path)
+    ∙ ap (λ m. beside (side p) (slot i path) ∷ from_node k (p / 2) (drop m path)) (omega arith)
+
+pub left_all : (d i p : ℕ) (path : List ℕ) → d ≤ i → left d i p path ≡ []
+unfolding rungs sides
+left_all d i p path h =
+    let none : d - i ≡ 0 = omega arith in
+    ap (λ m. from_node m p (drop (digest_len * i) path)) none
+
 module _ (R : Rule) (f : List ℕ → List ℕ) where
   pub climb_more : (r : Rung) (rs : List Rung) (x : List ℕ) → climb R f (r ∷ rs) x ≡ climb R f rs (above R f r x)
   unfolding climb
@@ -26,6 +48,16 @@ module _ (R : Rule) (f : List ℕ → List ℕ) where
   pub inputs_none : (x : List ℕ) → inputs R f [] x ≡ []
   unfolding inputs
   inputs_none x = refl
+
+  -- one level of a climb
+  pub climb_on : (d i p : ℕ) (path x y : List ℕ) → i < d → y ≡ above R f (beside (side p) (slot i path)) x → climb R f (left d (i + 1) (p / 2) path) y ≡ climb R f (left d i p path) x
+  climb_on d i p path x y h e =
+      ap (climb R f (left d (i + 1) (p / 2) path)) e
+      ∙ sym (climb_more (beside (side p) (slot i path)) (left d (i + 1) (p / 2) path) x)
+      ∙ sym (ap (λ rs. climb R f rs x) (left_more d i p path h))
+
+  pub climb_all : (d i p : ℕ) (path x : List ℕ) → d ≤ i → climb R f (left d i p path) x ≡ x
+  climb_all d i p path x h = ap (λ rs. climb R f rs x) (left_all d i p path h) ∙ climb_none x
 
 pub slot_length : (i : ℕ) (xs : List ℕ) → digest_len * i + digest_len ≤ length xs → length (slot i xs) ≡ digest_len
 slot_length i xs h = length-take-le digest_len (drop (digest_len * i) xs) (simp length-drop (omega arith))

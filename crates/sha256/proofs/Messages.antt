@@ -47,6 +47,11 @@ block_window p start =
 pub block_next : (p block : List ℕ) (start : ℕ) → block ≡ window p start 64 → block_at block 0 ≡ block_at p start
 block_next p block start e = ap (λ b. block_at b 0) e ∙ block_window p start
 
+-- the words of a block
+pub words_all : (block m : List ℕ) → length m ≡ 16 → ((k : ℕ) → k < 16 → get_or m k 0 ≡ word_at block (0 + 4 * k)) → m ≡ block_at block 0
+unfolding block_at
+words_all block m l h = fill_by_all (λ t. word_at block (0 + 4 * t)) m 16 0 l h
+
 -- a block has sixteen words
 pub block_length : (p : List ℕ) (q : ℕ) → length (block_at p q) ≡ 16
 unfolding block_at

@@ -94,7 +94,7 @@ absorbed_rows s p x y z v w e f g h i =
 
 -- ---- padding
 
-pads_one : (len n : ℕ) (xs : List ℕ) → xs ≡ replicate n 0 → 1 ≤ n → pad_count len ≡ 1 → take (pad_count len) (set xs 0 134) ≡ padding len
+pub pads_one : (len n : ℕ) (xs : List ℕ) → xs ≡ replicate n 0 → 1 ≤ n → pad_count len ≡ 1 → take (pad_count len) (set xs 0 134) ≡ padding len
 unfolding padding
 pads_one len n xs e l o =
     ap (λ ys. take (pad_count len) (set ys 0 134)) e
@@ -102,7 +102,7 @@ pads_one len n xs e l o =
     ∙ zeros_behind n 0 134 (omega arith)
     ∙ sym (cond-true (eqb (pad_count len) 1) _ _ (eq-eqb (pad_count len) 1 o))
 
-pads_more : (len n : ℕ) (xs : List ℕ) → xs ≡ replicate n 0 → 136 ≤ n → (pad_count len ≡ 1 → ⊥) → take (pad_count len) (set (set xs 0 6) (pad_count len - 1) 128) ≡ padding len
+pub pads_more : (len n : ℕ) (xs : List ℕ) → xs ≡ replicate n 0 → 136 ≤ n → (pad_count len ≡ 1 → ⊥) → take (pad_count len) (set (set xs 0 6) (pad_count len - 1) 128) ≡ padding len
 unfolding padding
 pads_more len n xs e l o =
     zeros_between n (pad_count len) 6 128 xs e (omega arith) (omega arith)

@@ -1,14 +1,17 @@
 -- Questions that are refused, and questions that are answered.
 use Rattle.std.proofs.Common.{◌≡◌, ℕ, ◌*◌, ◌<◌, Bool, true, false, cond, not, eqb, ltb, List, length, Ok, Err, Option, Result, sym, refl, ap, ◌∙◌, subst, ap₂, arith}
 use Rattle.std.proofs.lemmas.Bool.{and_parts, eqb-true, ltb-true, lt-ltb, eq-eqb}
-use Rattle.octets.specs.Outcome.{Refused, plain}
+use Rattle.octets.specs.Outcome.{Refused, plain, outcome}
 use Rattle.octets.specs.Written.{written}
+use Rattle.erasure.specs.Limits.{ok_width, ok_size}
 use Rattle.header.specs.declared.cell.Axis.{Axis}
 use Rattle.header.specs.Fields.{Fields, shape, header_outcome}
 use Rattle.header.specs.Sizes.{has_cell, path_len}
 use Rattle.header.proofs.Made.{made}
 use Rattle.evidence.specs.Evidence.{Evidence, evidence_fits}
-use Rattle.store.specs.Meaning.{Meaning, block}
+use Rattle.store.specs.Meaning.{Meaning, Bounded, block}
+use Rattle.store.specs.declared.refusal.StoreRefusal.{StoreRefusal}
+use Rattle.store.specs.Refusals.{told}
 use Rattle.store.specs.Showing.{question_outcome, asked, axis_of, share_over, path_over, answer_to, Shows, Untouched}
 
 -- a question asked of a header that was made of the k and the share size
@@ -20,6 +23,14 @@ question_by k s r c n p h e inside fits i f =
     ap₂ (λ w z. cond (not w) (Err (plain 1)) (cond (not z) (Err (plain 2)) (asked k s r c n p))) m.wide m.sized
     ∙ ap (λ (x : Fields). cond (not (has_cell x r c)) (Err (plain 15)) (cond (not (evidence_fits x n p)) (Err (plain 3)) (Ok tt))) (sym m.same)
     ∙ ap₂ (λ x y. cond (not x) (Err (plain 15)) (cond (not y) (Err (plain 3)) (Ok tt))) (sym i) (sym f)
+
+-- with an allowed k and share size a question is refused by 15 and 3 alone
+pub question_is : (m : Meaning) → Bounded m → (k s r c n p : ℕ) → k ≡ m.k → s ≡ m.s → question_outcome k s r c n p ≡ asked m.k m.s r c n p
+question_is m b k s r c n p ek es =
+    ap (λ v. cond (not (ok_width v)) (Err (plain 1)) (cond (not (ok_size s)) (Err (plain 2)) (asked v s r c n p))) ek
+    ∙ ap (λ v. cond (not (ok_width m.k)) (Err (plain 1)) (cond (not (ok_size v)) (Err (plain 2)) (asked m.k v r c n p))) es
+    ∙ ap (λ v. cond (not v) (Err (plain 1)) (cond (not (ok_size m.s)) (Err (plain 2)) (asked m.k m.s r c n p))) b.0
+    ∙ ap (λ v. cond (not v) (Err (plain 2)) (asked m.k m.s r c n p)) b.1
 
 -- what follows of a question that is not refused
 pub record Admitted (k s r c n p : ℕ) : Type 0 where
@@ -59,6 +70,17 @@ unfolding asked
 admit k s r c n p hr hc hn hp = rw (lt-ltb r (2 * k) hr, lt-ltb c (2 * k) hc, eq-eqb n s hn, eq-eqb p (path_len (block k s)) hp)
 
 module _ (m : Meaning) (r c : ℕ) (share path : List ℕ) where
+  -- a refused question
+  pub shows_refused : (e : StoreRefusal) (order : Type 0) (answer : Result (Option Axis) StoreRefusal) → asked m.k m.s r c (length share) (length path) ≡ Err (told e)
+      → answer ≡ Err e → order → Shows m m order r c share path (outcome told answer) share path
+  shows_refused e order answer q a o = record {
+    answers = ap (outcome told) a ∙ sym (ap (λ x. answer_to x (m.at r c)) q);
+    share_is = sym (ap (λ x. written x (share_over (m.at r c) share) share) q);
+    path_is = sym (ap (λ x. written x (path_over (m.at r c) path) path) q);
+    same = refl;
+    kept = o;
+  }
+
   module _ (free : asked m.k m.s r c (length share) (length path) ≡ Ok tt) where
     -- a question that is answered by what is at the cell
     pub shows_this : (v : Option Evidence) → m.at r c ≡ v → (m' : Meaning) (order : Type 0) (answer : Result (Option Axis) Refused) (share' path' : List ℕ)

@@ -1,13 +1,15 @@
 -- Cells held one by one.
-use Rattle.std.proofs.Common.{◌≡◌, ℕ, ◌+◌, ◌*◌, ◌/◌, ◌%◌, ◌<◌, Bool, true, false, List, length, get_or, set, replicate, Some, None, Ok, Option, sym, refl, ap, ◌∙◌, subst, ap₂, inl, inr, mod-lt, div-lt_iff_lt-mul, arith, below_more}
+use Rattle.std.proofs.Common.{◌≡◌, ℕ, ◌+◌, ◌*◌, ◌/◌, ◌%◌, ◌<◌, Bool, true, false, List, length, get_or, set, replicate, Some, None, Ok, Option, sym, refl, ap, ◌∙◌, subst, ap₂, inl, inr, mod-lt, div-lt_iff_lt-mul, arith, below_more, ◌≤◌}
 use Rattle.std.proofs.lemmas.Nat.{div-mul-add, mod-mul-add, mul-add-lt}
 use Rattle.std.proofs.lemmas.List.{get_or-set_same, get_or-set_other, get_or-replicate, get_or_past, length-replicate}
 use Rattle.std.proofs.lemmas.Bool.{cases_lt}
 use Rattle.std.specs.Int.{from_bool}
 use Rattle.std.specs.Option.{is_some}
 use Rattle.octets.specs.Shares.{byte_of}
+use Rattle.octets.specs.Splice.{spliced}
 use borrow.Rule.Slice.PartMut.{put_mid}
-use Rattle.octets.proofs.Shares.{buffer_from_bytes, put_more}
+use Rattle.octets.proofs.Shares.{buffer_from_bytes, put_more, share_inside}
+use Rattle.octets.proofs.Splices.{over_is, spliced_in}
 use Rattle.header.specs.declared.cell.Axis.{Axis}
 use Rattle.header.specs.Fields.{Fields}
 use Rattle.header.specs.Sizes.{width, cell_count, square_len}
@@ -60,6 +62,15 @@ module _ (f : List ℕ → List ℕ) (h : Fields) (m : Meaning) where
   cells_more i at k square share begin size below long full within here =
       subst (λ (n : ℕ). Cells (i + 1) (put_mid n k square share)) (sym begin)
       (put_more h.s i (cell_count h) k square share long within full (λ j b. share_byte (taken_at f h m j) b) below (λ b l. here b))
+
+  -- the same by a splice
+  pub cells_spliced : (i : ℕ) (square share square' : List ℕ) → Cells i square → length square ≡ square_len h → length share ≡ h.s → i < cell_count h
+      → ((b : ℕ) → get_or share b 0 ≡ share_byte (taken_at f h m i) b) → square' ≡ spliced (i * h.s) share square → Cells (i + 1) square'
+  cells_spliced i square share square' below long size within here e =
+      let room : i * h.s + h.s ≤ cell_count h * h.s = share_inside i (cell_count h) h.s within in
+      let is = e ∙ spliced_in (i * h.s) share square (omega arith) ∙ sym (over_is (i * h.s) h.s square share share refl size) in
+      subst (λ (xs : List ℕ). Cells (i + 1) xs) (sym is)
+      (put_more h.s i (cell_count h) h.s square share long within size (λ j b. share_byte (taken_at f h m j) b) below (λ b l. here b))
 
   marked : (v : Option Evidence) → from_bool (is_some v) ≡ mark_of v
   marked None = refl

@@ -34,11 +34,11 @@ hand_none (Ok t) (Some e) (Ok None) none a = never (cc)
 hand_none (Ok t) (Some e) (Err d) none a = never (cc)
 
 -- what the value is where a refusal counts as nothing
-value_some : (x : Result (Option Axis) StoreRefusal) (axis : Axis) → Some axis ≡ result_unwrap_or x None → x ≡ Ok (Some axis)
+pub value_some : (x : Result (Option Axis) StoreRefusal) (axis : Axis) → Some axis ≡ result_unwrap_or x None → x ≡ Ok (Some axis)
 value_some (Ok v) axis e = ap Ok (sym e)
 value_some (Err d) axis e = never (cc)
 
-value_none : (x : Result (Option Axis) StoreRefusal) (axis : Axis) → None ≡ result_unwrap_or x None → x ≡ Ok (Some axis) → ⊥
+pub value_none : (x : Result (Option Axis) StoreRefusal) (axis : Axis) → None ≡ result_unwrap_or x None → x ≡ Ok (Some axis) → ⊥
 value_none x axis e is = let p : None ≡ Some axis = e ∙ ap (λ y. result_unwrap_or y None) is in never (cc)
 
 module _ (f : List ℕ → List ℕ) (h : Fields) (r c : ℕ) where
