@@ -1,7 +1,7 @@
 // An answer that a cache keeps.
 use header::cell::{Axis, Cell};
 
-// The longest share and the longest path.
+// The longest path and the longest share.
 pub use header::lengths::{PATH_ROOM, SHARE_ROOM};
 
 // How many answers a cache keeps.

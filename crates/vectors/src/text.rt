@@ -16,9 +16,9 @@ pub fn number(words: &mut SplitWhitespace<'_>) -> anyhow::Result<usize> {
     Ok(word(words)?.parse::<usize>()?)
 }
 
-// The bytes that a word has in hexadecimal, in small letters. A last digit that has no other makes no byte.
-pub fn unhex(heap: Global, word: &str) -> anyhow::Result<Vec<u8>> {
-    let digits = word.as_bytes();
+// The bytes that a text has in hexadecimal, in small letters. A last digit that has no other makes no byte.
+pub fn unhex(heap: Global, text: &str) -> anyhow::Result<Vec<u8>> {
+    let digits = text.as_bytes();
     if !digits
         .iter()
         .all(|digit| matches!(*digit, b'0'..=b'9' | b'a'..=b'f'))

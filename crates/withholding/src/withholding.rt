@@ -10,6 +10,7 @@ ghost use Rattle.withholding.specs.Masked.{all_marks, hides, hiding, masked, wit
 
 use header::cell::{Axis, Cell};
 use header::lengths::MOST_CELLS;
+use store::question::shape_of;
 use store::refusal::StoreRefusal;
 use store::store::Store;
 
@@ -27,20 +28,20 @@ fn all_marks(marks: &[u8]) -> bool
     marks.iter().all(|mark| *mark <= 1)
 }
 
-// Hides the cells whose mark is 1 and shows all others.
+// Hides the cells whose mark is 1 and shows the others, of as many cells as there are marks.
 fn hide_marked(hidden: &mut [bool], marks: &[u8])
-    requires { length marks.now ≤ length hidden.old }
+    requires { length marks.now ≡ length hidden.old }
     ensures { (i : ℕ) → slice_index_or hidden.new i false ≡ (slice_index marks.now i == 1) }
 {
-    // Not by a zip, which would end with the marks: the cells behind them are shown too.
+    // Not by a zip: after a loop over an adapter of `iter_mut` nothing is known of what the buffer holds.
     let mut marks = marks.iter();
     for is_hidden in hidden.iter_mut() {
         *is_hidden = marks.next() == Some(&1);
     }
 }
 
-// The same where there is room for a larger square than that of the marks: all is cleared at once, and only the front is gone through,
-// since to go through the rest costs a small square many times its own cells.
+// Hides the cells whose mark is 1 and shows all others. There may be room for a larger square than that of the marks: so all is cleared
+// at once, and only the marked front is gone through.
 fn hide(hidden: &mut [bool], marks: &[u8])
     requires { length marks.now ≤ length hidden.old }
     ensures { (i : ℕ) → slice_index_or hidden.new i false ≡ (slice_index marks.now i == 1) }
@@ -85,10 +86,14 @@ impl<S: Store> Withholding<S> {
     fn hides(&self, cell: Cell) -> bool
         ensures { result ≡ (has_cell (block (S.Store.meaning self.now.below).k (S.Store.meaning self.now.below).s) cell.row cell.col && hides (S.Store.meaning self.now.below) self.now.hidden cell.row cell.col) }
     {
-        // Worked out of the half-width alone: to make a header of the shape for it would cost more than all the rest.
-        let width = 2 * self.below.half_width();
-        let (row, col) = (cell.row as usize, cell.col as usize);
-        row < width && (col < width && self.hidden[row * width + col])
+        // The k and the share size of a store are always allowed.
+        let Ok(shape) = shape_of(self.below.half_width(), self.below.share_size()) else {
+            return false;
+        };
+        match shape.cell_number(cell) {
+            Some(number) => self.hidden[number],
+            None => false,
+        }
     }
 }
 
